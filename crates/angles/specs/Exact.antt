@@ -1,0 +1,19 @@
+-- What it is that a wrap is exact, stated over scaled whole numbers: a value times 2 ^ low, which is whole. Definitions only.
+use mathlib.Core.Path.{_≡_}
+use lib.IntN.{ℤ, negℤ, _+ℤ_, _*ℤ_}
+use lib.Signed.{_≤ℤ_, _<ℤ_}
+use lib.Dec.{T}
+use lib.Ieee.{Float, Format, neg, lt, le, fits}
+use lib.Ieee.Scale.{finite}
+use Rattle.floats.specs.Units.{scaled}
+
+-- w and d differ by a whole multiple of 2h, and −h < w ≤ h, said of the whole numbers and of the floats
+pub record Wraps (f : Format) (d h w : Float) : Type 0 where
+  pub is-finite : T (finite w)
+  pub holds : T (fits f w)
+  pub turns : ℤ
+  pub exact : scaled f d ≡ scaled f w +ℤ turns *ℤ (scaled f h +ℤ scaled f h)
+  pub over : negℤ (scaled f h) <ℤ scaled f w
+  pub within : scaled f w ≤ℤ scaled f h
+  pub lt-low : T (lt (neg h) w)
+  pub le-high : T (le w h)

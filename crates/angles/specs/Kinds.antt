@@ -1,0 +1,36 @@
+-- Residual kinds: plain, or a turn that carries its half-turn h. Definitions only.
+use mathlib.Core.Bool.{Bool, true}
+use mathlib.Core.List.{List, [], _∷_}
+use lib.Ieee.{Float, Format}
+use Rattle.floats.specs.Refusal.{NUMBER, PARAM, Outcome, accepted, unless}
+use Rattle.floats.specs.Numbers.{allFinite}
+use Rattle.angles.specs.Wrap.{wrapStep, halfTurn}
+use Rattle.angles.specs.declared.Residual.{Residual}
+use Rattle.angles.specs.declared.Residual.the-variants.{Plain, Turn}
+use Rattle.angles.specs.declared.Kind.{Kind}
+
+abbrev pub plain : Kind
+plain = record { residual = Plain }
+
+-- a difference as it is, or wrapped
+abbrev pub turned : Format → Residual → Float → Float
+turned f Plain d = d
+turned f (Turn h) d = wrapStep f d h
+
+-- a difference d passed through the kind k
+abbrev pub throughOf : Format → Kind → Float → Float
+throughOf f k d = turned f (k .residual) d
+
+-- the numbers that a kind brings in
+abbrev pub numbersIn : Residual → List Float
+numbersIn Plain = []
+numbersIn (Turn h) = h ∷ []
+
+-- whether it passes 6
+abbrev pub passes : Format → Residual → Bool
+passes f Plain = true
+passes f (Turn h) = halfTurn f h
+
+-- the check of a kind: 5 where h isn't finite, then 6
+abbrev pub kindOf : Format → Kind → Outcome Kind
+kindOf f k = unless (allFinite (numbersIn (k .residual))) NUMBER (unless (passes f (k .residual)) PARAM (accepted k))

@@ -1,0 +1,101 @@
+// The exact wrap of a difference of headings into (-h, h], and the residual kinds that use it.
+ghost use mathlib.Core.Path.{_≡_};
+ghost use lib.Ieee.{binary64};
+ghost use Rattle.floats.specs.Refusal.{refusal};
+ghost use Rattle.angles.specs.Wrap.{wrapStep, halfTurn, wrapOf, wrapped};
+ghost use Rattle.angles.specs.Kinds.{throughOf, kindOf};
+
+// The wrap's lines for any bits, as a step uses them: a d that isn't finite comes out not finite.
+pub fn wrap_step(d: f64, h: f64) -> f64
+    ensures { λ r. ⌜ r ≡ wrapStep binary64 d h ⌝ }
+{
+    let p = h + h;
+    let r = d % p;
+    if r > h {
+        return r - p;
+    }
+    if r <= -h {
+        return r + p;
+    }
+    r
+}
+
+// What 6 asks of a half-turn, which is finite: h above 0 and 2h finite.
+fn is_half_turn(h: f64) -> bool
+    ensures { λ r. ⌜ r ≡ halfTurn binary64 h ⌝ }
+{
+    if h > 0.0 {
+        return floats::is_finite(h + h);
+    }
+    false
+}
+
+// What a wrap answers: the refusal, or 0, and the wrapped value, +0 where it is refused.
+pub struct Wrapped {
+    pub refusal: u8,
+    pub value: f64,
+}
+
+// The wrap for any caller: 5 where d or h isn't finite, 6 where h isn't above 0 or 2h isn't finite.
+pub fn wrap(d: f64, h: f64) -> Wrapped
+    ensures { λ r. ⌜ r ≡ wrapped (wrapOf binary64 d h) ⌝ }
+{
+    let given = [d, h];
+    if !floats::all_finite(&given, 2) {
+        return Wrapped {
+            refusal: 5,
+            value: 0.0,
+        };
+    }
+    if !is_half_turn(h) {
+        return Wrapped {
+            refusal: 6,
+            value: 0.0,
+        };
+    }
+    Wrapped {
+        refusal: 0,
+        value: wrap_step(d, h),
+    }
+}
+
+// How a difference is taken: as it is, or wrapped at a half-turn.
+pub enum Residual {
+    Plain,
+    Turn(f64),
+}
+
+// A residual held in a struct, so that an array of them can stand in a filter.
+pub struct Kind {
+    pub residual: Residual,
+}
+
+// A difference passed through a kind.
+pub fn through_kind(k: Kind, d: f64) -> f64
+    ensures { λ r. ⌜ r ≡ throughOf binary64 k d ⌝ }
+{
+    let residual = k.residual;
+    match residual {
+        Residual::Plain => d,
+        Residual::Turn(h) => wrap_step(d, h),
+    }
+}
+
+// The check of a kind: 5 where its half-turn isn't finite, 6 where it isn't above 0 or twice it isn't finite, else 0.
+pub fn kind_refusal(k: Kind) -> u8
+    ensures { λ r. ⌜ r ≡ refusal (kindOf binary64 k) ⌝ }
+{
+    let residual = k.residual;
+    match residual {
+        Residual::Plain => 0,
+        Residual::Turn(h) => {
+            if !floats::is_finite(h) {
+                return 5;
+            }
+            if !is_half_turn(h) {
+                return 6;
+            }
+            0
+        }
+    }
+}

@@ -1,0 +1,29 @@
+-- Laws of the fronts of lists (specs/Fronts.antt): none, one more number, the length. Assumes nothing.
+use Prim.Native.Nat.{ℕ, suc, _+_, _<_, _≤_}
+use mathlib.Core.Path.{_≡_, refl, sym, ap}
+use mathlib.Core.List.{List, _++_, append-assoc}
+use native.Mathlib.Numerals.{add-one}
+use native.Mathlib.Omega.{arith}
+use lib.ListN.{length, take, drop, getD, set, length-take, length-append, length-drop}
+use lib.Seq.{take-suc, drop-cons, set-at, length-take-le}
+use lib.Ieee.{Float}
+use Rattle.floats.specs.Fronts.{front, over}
+
+pub front-none : (s d : List Float) → front 0 s d ≡ d
+unfolding front
+front-none s d = refl
+
+pub front-more : (s d : List Float) (i : ℕ) (z : Float) → i < length s → i < length d → set (front i s d) i (getD s i z) ≡ front (i + 1) s d
+unfolding front
+front-more s d i z h k =
+    let t : i ≤ length s = omega arith in
+    rw (add-one, drop-cons d i z k, set-at (take i s) (getD d i z) (drop (suc i) d) (getD s i z) i (length-take-le i s t), take-suc s i z h, append-assoc)
+
+pub length-front : (s d : List Float) (i : ℕ) → i ≤ length s → i ≤ length d → length (front i s d) ≡ length d
+unfolding front
+length-front s d i h k = simp (length-append, length-take, length-drop) (omega arith)
+
+-- the first k of s put over d, said by what is put there
+pub front-over : (k : ℕ) (s d : List Float) → k ≤ length s → front k s d ≡ over (take k s) d
+unfolding front
+front-over k s d h = ap (λ (j : ℕ). take k s ++ drop j d) (sym (length-take-le k s h))

@@ -1,0 +1,4 @@
+pub mod Finite
+pub mod Fronts
+pub mod Units
+pub mod Grid

@@ -1,0 +1,4 @@
+pub mod Refusal
+pub mod Numbers
+pub mod Fronts
+pub mod Units

@@ -1,0 +1,148 @@
+-- The theorems of this crate, for a reader and for whoever calls a root. `Laws` has those that hold in every format. Assumes nothing.
+use mathlib.Core.Path.{_≡_, refl, sym, ap, _∙_, subst}
+use mathlib.Core.Bool.{Bool, true, false, not, cond, false≢true}
+use mathlib.Core.List.{List, [], _∷_}
+use native.Mathlib.Omega.{arith}
+use Prim.Native.Nat.{ℕ, zero, suc, _*_, _<_}
+use lib.IntN.{ℤ}
+use lib.ListN.{getD}
+use lib.Dec.{T, ltb→lt}
+use lib.Ieee.{Float, nan, inf, fin, Format, binary64, up, down, fits, isNan, lt}
+use Rattle.floats.specs.Refusal.{NUMBER, number, taken}
+use Rattle.floats.specs.Numbers.{aboveZero}
+use Rattle.root.specs.Definition.{rootOf, rooted}
+use Rattle.root.specs.Nearest.{Nearest}
+use Rattle.root.specs.Answer.{given, answer, numberOf, valuesOf, Refuses, Gives, Asked}
+use Rattle.root.specs.declared.Root.{Root}
+use Rattle.root.specs.declared.Root.the-variants.{Value, Refused}
+use Rattle.root.proofs.Laws.{root-fits, root-rooted, root-above, root-nearest, root-only, zero-nearest}
+
+-- ---- the root over the format
+-- THE ROOT IS A VALUE OF THE FORMAT.
+pub root-held : (f : Format) (x : Float) → T (fits f x) → T (rooted x) → T (fits f (rootOf f x))
+unfolding rooted rootOf
+root-held f nan h r = absurd r
+root-held f (inf s) h r = absurd r
+root-held f (fin s zero e) h r = h
+root-held f (fin true (suc m) e) h r = absurd r
+root-held f (fin false (suc m) e) h r = root-fits f m e h
+
+-- It has a root itself: it is finite, and a zero or above zero.
+root-again : (f : Format) (x : Float) → T (fits f x) → T (rooted x) → T (rooted (rootOf f x))
+unfolding rooted rootOf
+root-again f nan h r = absurd r
+root-again f (inf s) h r = absurd r
+root-again f (fin s zero e) h r = tt
+root-again f (fin true (suc m) e) h r = absurd r
+root-again f (fin false (suc m) e) h r = root-rooted f m e h
+
+rooted-number : (x : Float) → T (rooted x) → T (not (isNan x))
+unfolding rooted isNan
+rooted-number nan r = absurd r
+rooted-number (inf s) r = tt
+rooted-number (fin s m e) r = tt
+
+pub root-no-nan : (f : Format) (x : Float) → T (fits f x) → T (rooted x) → T (not (isNan (rootOf f x)))
+root-no-nan f x h r = rooted-number (rootOf f x) (root-again f x h r)
+
+-- NO VALUE OF THE FORMAT IS NEARER TO THE EXACT ROOT, whatever has a root. `root-only` of `Laws`: above zero nothing else is as near.
+-- For a zero `zero-only` of `Laws` leaves the two zeros, and no nearness can choose between them:
+pub nearest-root : (f : Format) (x : Float) → T (fits f x) → T (rooted x) → Nearest f x (rootOf f x)
+unfolding rooted rootOf
+nearest-root f nan h r = absurd r
+nearest-root f (inf s) h r = absurd r
+nearest-root f (fin s zero e) h r = zero-nearest f s e s e h
+nearest-root f (fin true (suc m) e) h r = absurd r
+nearest-root f (fin false (suc m) e) h r = root-nearest f m e h
+
+-- A ZERO OF EITHER SIGN IS ITS OWN ROOT, which decides.
+pub zero-own : (f : Format) (s : Bool) (e : ℤ) → rootOf f (fin s zero e) ≡ fin s zero e
+unfolding rootOf
+zero-own f s e = refl
+
+-- ---- what `square_root` answers
+-- THE ANSWER IS WHAT DOCUMENT 01 ASKS, for every f64.
+pub asked : (x : Float) → T (fits binary64 x) → Asked x (answer x)
+unfolding rooted rootOf
+asked nan h = refl
+asked (inf s) h = refl
+asked (fin s zero e) h = (refl, refl)
+asked (fin true (suc m) e) h = refl
+asked (fin false (suc m) e) h = (rootOf binary64 (fin false (suc m) e), (refl, refl), root-nearest binary64 m e h)
+
+refuses : (a : Root) → Refuses a → a ≡ Refused
+refuses (Value r) k = absurd (omega arith)
+refuses Refused k = refl
+
+gives : (a : Root) (r : Float) → Gives a r → a ≡ Value r
+gives (Value q) r k = ap (λ (l : List Float). Value (getD l 0 nan)) (k .1)
+gives Refused r k = absurd (omega (arith, k .0))
+
+-- AND NOTHING ELSE IS.
+pub asked-only : (x : Float) (a : Root) → T (fits binary64 x) → Asked x a → a ≡ answer x
+unfolding rooted rootOf
+asked-only nan a h k = refuses a k
+asked-only (inf s) a h k = refuses a k
+asked-only (fin s zero e) a h k = gives a (fin s zero e) k
+asked-only (fin true (suc m) e) a h k = refuses a k
+asked-only (fin false (suc m) e) a h k = gives a (k .0) (k .1) ∙ ap Value (root-only binary64 m e h (k .0) (k .2))
+
+pub two-answers : (x : Float) (a b : Root) → T (fits binary64 x) → Asked x a → Asked x b → a ≡ b
+two-answers x a b h k l = asked-only x a h k ∙ sym (asked-only x b h l)
+
+-- The number and the values of the answer: 0 and the root of what has one, 5 and nothing of what has none.
+pub answer-number : (x : Float) → numberOf (answer x) ≡ cond (rooted x) taken (number NUMBER)
+answer-number x = go (rooted x)
+  where
+    go : (b : Bool) → numberOf (given b (rootOf binary64 x)) ≡ cond b taken (number NUMBER)
+    go true = refl
+    go false = refl
+
+pub answer-values : (x : Float) → valuesOf (answer x) ≡ cond (rooted x) (rootOf binary64 x ∷ []) []
+answer-values x = go (rooted x)
+  where
+    go : (b : Bool) → valuesOf (given b (rootOf binary64 x)) ≡ cond b (rootOf binary64 x ∷ []) []
+    go true = refl
+    go false = refl
+
+-- ---- for callers
+-- Where a value is answered, x has a root, and the value is it.
+pub value-is : (x v : Float) → answer x ≡ Value v → T (rooted x) × (v ≡ rootOf binary64 x)
+value-is x v e = given-value (rooted x) (rootOf binary64 x) v e
+  where
+    zero-is-no-one : _≡_ {A = ℕ} 0 1 → ⊥
+    zero-is-no-one z = omega arith
+
+    given-value : (b : Bool) (r v : Float) → given b r ≡ Value v → T b × (v ≡ r)
+    given-value true r v e = (tt, (let z : r ≡ v = cc in sym z))
+    given-value false r v e = let z : _≡_ {A = ℕ} 0 1 = cc in absurd (zero-is-no-one z)
+
+pub value-no-nan : (x v : Float) → T (fits binary64 x) → answer x ≡ Value v → T (not (isNan v))
+value-no-nan x v h e = let k = value-is x v e in subst (λ (y : Float). T (not (isNan y))) (sym (k .1)) (root-no-nan binary64 x h (k .0))
+
+-- WHAT IS ABOVE ZERO ALWAYS HAS A ROOT: a pivot that passes is never refused here.
+pub above-rooted : (x : Float) → aboveZero x ≡ true → rooted x ≡ true
+unfolding aboveZero lt rooted
+above-rooted nan t = t
+above-rooted (inf s) t = t
+above-rooted (fin s zero e) t = refl
+above-rooted (fin true (suc m) e) t = t
+above-rooted (fin false (suc m) e) t = refl
+
+pub above-has-root : (x : Float) → aboveZero x ≡ true → answer x ≡ Value (rootOf binary64 x)
+above-has-root x t = ap (λ (b : Bool). given b (rootOf binary64 x)) (above-rooted x t)
+
+-- AND ITS ROOT IS ABOVE ZERO, so it can be divided by.
+pub above-root-above : (f : Format) (x : Float) → T (fits f x) → aboveZero x ≡ true → aboveZero (rootOf f x) ≡ true
+unfolding aboveZero lt rootOf
+above-root-above f nan h t = absurd (false≢true t)
+above-root-above f (inf s) h t = absurd (false≢true t)
+above-root-above f (fin true m e) h t = absurd (false≢true t)
+above-root-above f (fin false zero e) h t = absurd (none (down e) (up e) (ltb→lt (0 * 1 * down e) (0 * up e * 1) (subst T (sym t) tt)))
+  where
+    none : (a b : ℕ) → 0 * 1 * a < 0 * b * 1 → ⊥
+    none a b h = omega arith
+above-root-above f (fin false (suc m) e) h t = root-above f m e h
+
+pub value-above : (x v : Float) → T (fits binary64 x) → aboveZero x ≡ true → answer x ≡ Value v → aboveZero v ≡ true
+value-above x v h t e = subst (λ (y : Float). aboveZero y ≡ true) (sym (value-is x v e .1)) (above-root-above binary64 x h t)
