@@ -1,0 +1,79 @@
+// The factor L of A.
+ghost use mathlib.Core.Path.{_≡_};
+ghost use Prim.Native.Nat.{_≤_};
+ghost use lib.Ieee.{binary64};
+ghost use Rattle.floats.specs.Refusal.{number};
+ghost use Rattle.matrix.specs.Results.{worked};
+ghost use Rattle.matrix.specs.Factor.{refusedBy, factorOf, factored};
+use crate::sums;
+use root::Root;
+
+// Whose pivots a factor has: those of P or those of S.
+pub enum Pivots {
+    OfP,
+    OfS,
+}
+
+// A factor: 0 and its entries, or the number that it was refused by and +0 throughout.
+pub struct Factor {
+    pub refusal: u8,
+    pub l: [f64; 64],
+}
+
+pub const PIVOT: u8 = 7;
+
+pub const INNOV: u8 = 8;
+
+pub const RANGE: u8 = 9;
+
+// The number that refuses a pivot.
+fn refused_by(of: Pivots) -> u8
+    ensures { λ r. ⌜ r ≡ number (refusedBy of) ⌝ }
+{
+    match of {
+        Pivots::OfP => PIVOT,
+        Pivots::OfS => INNOV,
+    }
+}
+
+// The factor of A, whose lower triangle stands in the front of a, row by row. The work stops at the first refused entry, out of both loops.
+pub fn cholesky_decompose_lower(a: &[f64; 64], n: usize, of: Pivots) -> Factor
+    requires { ⌜ n ≤ 8 ⌝ }
+    ensures { λ r. ⌜ r ≡ factored (worked (factorOf binary64 (refusedBy of) (now (a .entry)) n)) ⌝ }
+{
+    let mut l = [0.0f64; 64];
+    let mut refusal = 0u8;
+    let mut j = 0usize;
+    'columns: while j < n {
+        let s = sums::row(j, n);
+        let pivot = sums::less(a[s + j], &l, s, s, j);
+        if !floats::is_above_zero(pivot) {
+            refusal = refused_by(of);
+            break 'columns;
+        }
+        let Root::Value(d) = root::square_root(pivot) else {
+            refusal = refused_by(of);
+            break 'columns;
+        };
+        l[s + j] = d;
+        let mut i = j + 1;
+        'rows: while i < n {
+            let r = sums::row(i, n);
+            let e = sums::less(a[r + j], &l, r, s, j) / d;
+            if !floats::is_finite(e) {
+                refusal = RANGE;
+                break 'columns;
+            }
+            l[r + j] = e;
+            i += 1;
+        }
+        j += 1;
+    }
+    if refusal != 0 {
+        return Factor {
+            refusal,
+            l: [0.0f64; 64],
+        };
+    }
+    Factor { refusal, l }
+}

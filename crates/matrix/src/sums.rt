@@ -1,0 +1,77 @@
+// Where rows and cells stand, sums of products of rows, and sums and differences of matrices. Each operation is rounded once.
+ghost use mathlib.Core.Path.{_≡_};
+ghost use Prim.Native.Nat.{_+_, _*_, _<_, _≤_};
+ghost use lib.Ieee.{binary64};
+ghost use Rattle.matrix.specs.Sums.{dotOf, lessOf, plusOf, minusOf};
+
+// Where row i of rows of n starts.
+pub fn row(i: usize, n: usize) -> usize
+    requires { ⌜ (i < 8) × (n ≤ 8) ⌝ }
+    ensures { λ r. ⌜ (r ≡ i * n) × (r + n ≤ 64) ⌝ }
+{
+    i * n
+}
+
+// Where column j of row i of rows of d stands.
+pub fn cell(i: usize, d: usize, j: usize) -> usize
+    requires { ⌜ (i < 8) × (d ≤ 8) × (j < d) ⌝ }
+    ensures { λ r. ⌜ (r ≡ i * d + j) × (r < 64) ⌝ }
+{
+    row(i, d) + j
+}
+
+// The sum over k below n, from +0 upward, of x[r + k]·y[s + k].
+pub fn dot(x: &[f64; 64], r: usize, y: &[f64; 64], s: usize, n: usize) -> f64
+    requires { ⌜ (r + n ≤ 64) × (s + n ≤ 64) ⌝ }
+    ensures { λ t. ⌜ t ≡ dotOf binary64 (now (x .entry)) r (now (y .entry)) s n ⌝ }
+{
+    let mut t = 0.0;
+    let mut k = 0usize;
+    while k < n {
+        t = t + x[r + k] * y[s + k];
+        k += 1;
+    }
+    t
+}
+
+// a minus l[r + k]·l[s + k] for each k below n in turn.
+pub fn less(a: f64, l: &[f64; 64], r: usize, s: usize, n: usize) -> f64
+    requires { ⌜ (r + n ≤ 64) × (s + n ≤ 64) ⌝ }
+    ensures { λ t. ⌜ t ≡ lessOf binary64 a (now (l .entry)) r s n ⌝ }
+{
+    let mut t = a;
+    let mut k = 0usize;
+    while k < n {
+        t = t - l[r + k] * l[s + k];
+        k += 1;
+    }
+    t
+}
+
+// a + b over the first k places, +0 after them.
+pub fn plus(k: usize, a: &[f64; 64], b: &[f64; 64]) -> [f64; 64]
+    requires { ⌜ k ≤ 64 ⌝ }
+    ensures { λ r. ⌜ r ≡ plusOf binary64 k (now (a .entry)) (now (b .entry)) ⌝ }
+{
+    let mut out = [0.0f64; 64];
+    let mut i = 0usize;
+    while i < k {
+        out[i] = a[i] + b[i];
+        i += 1;
+    }
+    out
+}
+
+// a − b over the first k places, +0 after them.
+pub fn minus(k: usize, a: &[f64; 64], b: &[f64; 64]) -> [f64; 64]
+    requires { ⌜ k ≤ 64 ⌝ }
+    ensures { λ r. ⌜ r ≡ minusOf binary64 k (now (a .entry)) (now (b .entry)) ⌝ }
+{
+    let mut out = [0.0f64; 64];
+    let mut i = 0usize;
+    while i < k {
+        out[i] = a[i] - b[i];
+        i += 1;
+    }
+    out
+}
