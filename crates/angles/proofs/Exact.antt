@@ -12,17 +12,18 @@ use lib.Ieee.{Float, nan, inf, fin, Format, low, below, level, neg, add, sub, re
 use lib.Ieee.Fits.{cond-fits, add-fits, sub-fits, rem-fits, eq→eqb}
 use lib.Ieee.Exact.{HasValue}
 use lib.Ieee.Scale.{finite}
-use Rattle.floats.specs.Refusal.{NUMBER, PARAM, accepted, unless}
+use Rattle.floats.specs.Refusal.{NUMBER, PARAM, Outcome, refused, accepted, refusal, or, unless}
 use Rattle.floats.specs.Numbers.{plusZero, allFinite}
-use Rattle.angles.specs.Wrap.{wrapStep, brought, halfTurn, wrapOf}
-use Rattle.angles.specs.Kinds.{turned, throughOf}
+use Rattle.angles.specs.Wrap.{wrapStep, brought, halfTurn, wrapOf, wrapped}
+use Rattle.angles.specs.Kinds.{turned, throughOf, kindOf}
 use Rattle.angles.specs.declared.Residual.{Residual}
 use Rattle.angles.specs.declared.Residual.the-variants.{Plain, Turn}
 use Rattle.angles.specs.declared.Kind.{Kind}
-use Rattle.floats.specs.Units.{unitsOf, signed, scaled}
+use Rattle.floats.specs.Units.{unitsOf, minus?, signed, scaled}
 use Rattle.angles.specs.Exact.{Wraps}
+use Rattle.floats.proofs.Refusals.{number-above}
 use Rattle.floats.proofs.Units.{lt-units, le-units, neg-units, finite-value}
-use Rattle.floats.proofs.Grid.{Held, held, scaled-is}
+use Rattle.floats.proofs.Grid.{Held, held, units-is, scaled-is}
 use Rattle.angles.proofs.Sizes.{over, signOf, sizeOf, left-lt, wrap-value}
 
 -- ---- the integers
@@ -116,6 +117,19 @@ at-most-bits true w h P b = left (ltb 0 (w + h)) (level true w false h) (lt→lt
     left true c t = tt
     left false c t = absurd t
 
+-- ---- the sign: what is brought over is not zero, so a zero kept the sign of d
+sign-of : (f : Format) (x : Float) (s : Bool) (n : ℕ) → HasValue x s n (2 ^ low f) → minus? x ≡ s
+sign-of f nan s n p = absurd p
+sign-of f (inf t) s n p = absurd p
+sign-of f (fin t m e) s n p = p .0
+
+kept-sign : (b s : Bool) (R H : ℕ) → R < H + H → sizeOf b R H ≡ 0 → signOf b s ≡ s
+kept-sign true s R H h z = absurd (some z)
+  where
+    some : H + H - R ≡ 0 → ⊥
+    some e = omega arith
+kept-sign false s R H h z = refl
+
 -- ---- what a wrap gives fits
 pub wrap-fits : (f : Format) (d h : Float) → T (fits f d) → T (fits f (wrapStep f d h))
 unfolding wrapStep brought
@@ -150,6 +164,8 @@ module _ (f : Format) (d h : Float) (s : Bool) (D H : ℕ) (hd : Held f d s D) (
         over = subst (λ (z : ℤ). negℤ z <ℤ scaled f w) (sym sh) (subst (λ (z : ℤ). negℤ (pos H) <ℤ z) (sym sw) (above (signOf b s) (sizeOf b R H) H P B));
         within = subst (λ (z : ℤ). scaled f w ≤ℤ z) (sym sh) (subst (λ (z : ℤ). z ≤ℤ pos H) (sym sw) (at-most (signOf b s) (sizeOf b R H) H B));
         lt-low = subst T (sym (lt-units (neg h) w true (signOf b s) H (sizeOf b R H) l L (neg-units h false H l (hh .value)) v)) (above-bits (signOf b s) (sizeOf b R H) H P B);
+        zero-sign = λ z.
+            sign-of f w (signOf b s) (sizeOf b R H) v ∙ kept-sign b s R H lt' (sym (units-is f w (signOf b s) (sizeOf b R H) v) ∙ z) ∙ sym (sign-of f d s D (hd .value));
         le-high = subst T (sym (le-units w h (signOf b s) false (sizeOf b R H) H l L v (hh .value))) (at-most-bits (signOf b s) (sizeOf b R H) H P B);
       }
 
@@ -196,10 +212,10 @@ wraps f d h fd nd fh nh a two =
     let k = sizes f d h fd nd fh nh a in
     size-law f d h (k .sign) (k .D) (k .H) (k .of-d) (k .of-h) (k .H-pos) two fd
 
--- The same of the public wrap: an answer that is not refused is exact.
-pub wrap-exact : (f : Format) (d h w : Float) → T (fits f d) → T (fits f h) → wrapOf f d h ≡ accepted w → Wraps f d h w
+-- the same of the outcome of a wrap
+outcome-exact : (f : Format) (d h w : Float) → T (fits f d) → T (fits f h) → wrapOf f d h ≡ accepted w → Wraps f d h w
 unfolding wrapOf halfTurn allFinite
-wrap-exact f d h w fd fh = go (finite d) (finite h) (lt plusZero h) (finite (add f h h)) (λ a b c e. wraps f d h fd a fh b c e)
+outcome-exact f d h w fd fh = go (finite d) (finite h) (lt plusZero h) (finite (add f h h)) (λ a b c e. wraps f d h fd a fh b c e)
   where
     go : (a b c e : Bool) → (T a → T b → T c → T e → Wraps f d h (wrapStep f d h))
         → unless (a && (b && true)) NUMBER (unless (c && e) PARAM (accepted (wrapStep f d h))) ≡ accepted w → Wraps f d h w
@@ -208,6 +224,28 @@ wrap-exact f d h w fd fh = go (finite d) (finite h) (lt plusZero h) (finite (add
     go true true false e k z = let q : _≡_ {A = ℕ} 0 1 = cc in absurd (omega arith)
     go true false c e k z = let q : _≡_ {A = ℕ} 0 1 = cc in absurd (omega arith)
     go false b c e k z = let q : _≡_ {A = ℕ} 0 1 = cc in absurd (omega arith)
+
+-- The same of what the public wrap hands back: a value that is not refused is exact.
+pub wrap-exact : (f : Format) (d h : Float) → T (fits f d) → T (fits f h) → wrapped (wrapOf f d h) .refusal ≡ 0 → Wraps f d h (wrapped (wrapOf f d h) .value)
+wrap-exact f d h fd fh = go (wrapOf f d h) refl
+  where
+    go : (o : Outcome Float) → wrapOf f d h ≡ o → refusal o ≡ 0 → Wraps f d h (or plusZero o)
+    go (refused r) e z = absurd (omega (arith, number-above r))
+    go (accepted w) e z = outcome-exact f d h w fd fh e
+
+-- And of a finite difference passed through a turn that has passed its check.
+pub through-exact : (f : Format) (h d : Float) → T (fits f d) → T (finite d) → T (fits f h) → kindOf f (record { residual = Turn h }) ≡ accepted (record { residual = Turn h }) → Wraps f d h (throughOf f (record { residual = Turn h }) d)
+unfolding halfTurn allFinite
+through-exact f h d fd nd fh = go (finite h) (lt plusZero h) (finite (add f h h)) (λ b c e. wraps f d h fd nd fh b c e)
+  where
+    turn : Kind
+    turn = record { residual = Turn h }
+
+    go : (b c e : Bool) → (T b → T c → T e → Wraps f d h (wrapStep f d h)) → unless (b && true) NUMBER (unless (c && e) PARAM (accepted turn)) ≡ accepted turn → Wraps f d h (wrapStep f d h)
+    go true true true k z = k tt tt tt
+    go true true false k z = let q : _≡_ {A = ℕ} 0 1 = cc in absurd (omega arith)
+    go true false e k z = let q : _≡_ {A = ℕ} 0 1 = cc in absurd (omega arith)
+    go false c e k z = let q : _≡_ {A = ℕ} 0 1 = cc in absurd (omega arith)
 
 -- ---- a d that isn't finite
 nothing : (f : Format) (h p : Float) → brought f h p nan ≡ nan

@@ -5,8 +5,8 @@ ghost use Rattle.floats.specs.Refusal.{refusal};
 ghost use Rattle.angles.specs.Wrap.{wrapStep, halfTurn, wrapOf, wrapped};
 ghost use Rattle.angles.specs.Kinds.{throughOf, kindOf};
 
-// The wrap's lines for any bits, as a step uses them: a d that isn't finite comes out not finite.
-pub fn wrap_step(d: f64, h: f64) -> f64
+// The wrap's lines for any bits, as a step uses them: a d that isn't finite comes out not finite. It judges nothing: an h that 6 would refuse gives what the lines give.
+fn wrap_step(d: f64, h: f64) -> f64
     ensures { λ r. ⌜ r ≡ wrapStep binary64 d h ⌝ }
 {
     let p = h + h;
@@ -20,7 +20,7 @@ pub fn wrap_step(d: f64, h: f64) -> f64
     r
 }
 
-// What 6 asks of a half-turn, which is finite: h above 0 and 2h finite.
+// What 6 asks of a half-turn: h above 0 and 2h finite.
 fn is_half_turn(h: f64) -> bool
     ensures { λ r. ⌜ r ≡ halfTurn binary64 h ⌝ }
 {
@@ -70,7 +70,7 @@ pub struct Kind {
     pub residual: Residual,
 }
 
-// A difference passed through a kind.
+// A difference passed through a kind, whether or not the kind would pass its check.
 pub fn through_kind(k: Kind, d: f64) -> f64
     ensures { λ r. ⌜ r ≡ throughOf binary64 k d ⌝ }
 {

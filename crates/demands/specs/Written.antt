@@ -1,5 +1,5 @@
 -- How a worked case is written: numbers as a person writes them, and tests that two answers are the same bit for bit. Definitions only.
-use Prim.Native.Nat.{ℕ}
+use Prim.Native.Nat.{ℕ, zero, suc}
 use Prim.Native.String.{String}
 use mathlib.Core.Bool.{Bool, true, false, _&&_}
 use mathlib.Core.List.{List, [], _∷_}
@@ -7,7 +7,7 @@ use lib.IntN.{pos, negsuc}
 use lib.Dec.{eqb}
 use lib.Ieee.{Float, fin, binary64, ofInt, div, neg, toBits}
 
--- k, −k, and a fraction that a double holds
+-- k, −k, and a / b, for fractions that a double holds
 abbrev pub int : ℕ → Float
 int k = ofInt binary64 (pos k)
 
@@ -17,9 +17,10 @@ minus k = neg (int k)
 abbrev pub frac : ℕ → ℕ → Float
 frac a b = div binary64 (int a) (int b)
 
--- 2 ^ −(k + 1)
-abbrev pub power-below : ℕ → Float
-power-below k = fin false 1 (negsuc k)
+-- 2 ^ −k
+abbrev pub two-to-minus : ℕ → Float
+two-to-minus zero = fin false 1 (pos 0)
+two-to-minus (suc k) = fin false 1 (negsuc k)
 
 -- the same bits
 infix 50 _is_ _are_
@@ -33,11 +34,12 @@ unfolding _is_
 (x ∷ xs) are [] = false
 (x ∷ xs) are (y ∷ ys) = (x is y) && (xs are ys)
 
--- the names of the cases that fail
+-- a case's name is kept where it fails
 abbrev pub kept : Bool → String → List String → List String
 kept true s l = l
 kept false s l = s ∷ l
 
+-- the names of the cases that fail
 abbrev pub failing : List (String × Bool) → List String
 failing [] = []
 failing (c ∷ cs) = kept (c .1) (c .0) (failing cs)

@@ -1,3 +1,4 @@
+pub mod Refusals
 pub mod Finite
 pub mod Fronts
 pub mod Units

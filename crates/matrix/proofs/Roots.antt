@@ -6,10 +6,10 @@ use native.Mathlib.Omega.{arith}
 use lib.Ieee.{Float, binary64}
 use Rattle.floats.specs.Numbers.{aboveZero}
 use Rattle.root.specs.Definition.{rootOf, rooted}
-use Rattle.root.specs.Answer.{answer}
+use Rattle.root.specs.Answer.{outcomeOf, rootOutcome, answer}
 use Rattle.root.specs.declared.Root.{Root}
 use Rattle.root.specs.declared.Root.the-variants.{Value, Refused}
-use Rattle.root.proofs.Answers.{above-has-root}
+use Rattle.root.proofs.Answers.{answer-is, above-has-root}
 
 value-same : {d e : Float} → Value d ≡ Value e → d ≡ e
 value-same h = cc
@@ -32,7 +32,10 @@ answer-refused x t = go (rooted x) refl
     go false h = h
 
 -- q is what the root answered for a pivot x that has passed
-module _ {q : Root} (x : Float) (t : aboveZero x ≡ true) (is : q ≡ answer x) where
+module _ {q : Root} (x : Float) (t : aboveZero x ≡ true) (told : outcomeOf q ≡ rootOutcome binary64 x) where
+  is : q ≡ answer x
+  is = answer-is q x told
+
   pub above-value : {d : Float} → q ≡ Value d → d ≡ rootOf binary64 x
   above-value h = value-same (sym h ∙ is ∙ above-has-root x t)
 

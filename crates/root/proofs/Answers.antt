@@ -1,18 +1,16 @@
 -- The theorems of this crate, for a reader and for whoever calls a root. `Laws` has those that hold in every format. Assumes nothing.
 use mathlib.Core.Path.{_≡_, refl, sym, ap, _∙_, subst}
-use mathlib.Core.Bool.{Bool, true, false, not, cond, false≢true}
-use mathlib.Core.List.{List, [], _∷_}
+use mathlib.Core.Bool.{Bool, true, false, not, false≢true}
 use native.Mathlib.Omega.{arith}
 use Prim.Native.Nat.{ℕ, zero, suc, _*_, _<_}
 use lib.IntN.{ℤ}
-use lib.ListN.{getD}
 use lib.Dec.{T, ltb→lt}
 use lib.Ieee.{Float, nan, inf, fin, Format, binary64, up, down, fits, isNan, lt}
-use Rattle.floats.specs.Refusal.{NUMBER, number, taken}
+use Rattle.floats.specs.Refusal.{NUMBER, Outcome, refused, accepted, unless}
 use Rattle.floats.specs.Numbers.{aboveZero}
 use Rattle.root.specs.Definition.{rootOf, rooted}
 use Rattle.root.specs.Nearest.{Nearest}
-use Rattle.root.specs.Answer.{given, answer, numberOf, valuesOf, Refuses, Gives, Asked}
+use Rattle.root.specs.Answer.{outcomeOf, rootOutcome, given, answer, Asked}
 use Rattle.root.specs.declared.Root.{Root}
 use Rattle.root.specs.declared.Root.the-variants.{Value, Refused}
 use Rattle.root.proofs.Laws.{root-fits, root-rooted, root-above, root-nearest, root-only, zero-nearest}
@@ -45,8 +43,8 @@ rooted-number (fin s m e) r = tt
 pub root-no-nan : (f : Format) (x : Float) → T (fits f x) → T (rooted x) → T (not (isNan (rootOf f x)))
 root-no-nan f x h r = rooted-number (rootOf f x) (root-again f x h r)
 
--- NO VALUE OF THE FORMAT IS NEARER TO THE EXACT ROOT, whatever has a root. `root-only` of `Laws`: above zero nothing else is as near.
--- For a zero `zero-only` of `Laws` leaves the two zeros, and no nearness can choose between them:
+-- NO VALUE OF THE FORMAT IS NEARER TO THE EXACT ROOT of an x that has one. Above zero nothing else is as near (`root-only` of Laws.antt).
+-- To the root of a zero both zeros are nearest, and nothing else (`zero-only` there): nearness does not choose between them.
 pub nearest-root : (f : Format) (x : Float) → T (fits f x) → T (rooted x) → Nearest f x (rootOf f x)
 unfolding rooted rootOf
 nearest-root f nan h r = absurd r
@@ -55,55 +53,49 @@ nearest-root f (fin s zero e) h r = zero-nearest f s e s e h
 nearest-root f (fin true (suc m) e) h r = absurd r
 nearest-root f (fin false (suc m) e) h r = root-nearest f m e h
 
--- A ZERO OF EITHER SIGN IS ITS OWN ROOT, which decides.
+-- A ZERO OF EITHER SIGN IS ITS OWN ROOT: this decides between the two.
 pub zero-own : (f : Format) (s : Bool) (e : ℤ) → rootOf f (fin s zero e) ≡ fin s zero e
 unfolding rootOf
 zero-own f s e = refl
 
 -- ---- what `square_root` answers
--- THE ANSWER IS WHAT DOCUMENT 01 ASKS, for every f64.
+-- Each outcome is one case of the enum's: what the contract says is the answer.
+pub outcome-answer : (x : Float) → outcomeOf (answer x) ≡ rootOutcome binary64 x
+outcome-answer x = go (rooted x)
+  where
+    go : (b : Bool) → outcomeOf (given b (rootOf binary64 x)) ≡ unless b NUMBER (accepted (rootOf binary64 x))
+    go true = refl
+    go false = refl
+
+one-case : (a b : Root) → outcomeOf a ≡ outcomeOf b → a ≡ b
+one-case (Value r) (Value q) k = cc
+one-case (Value r) Refused k = let z : _≡_ {A = ℕ} 0 1 = cc in absurd (omega arith)
+one-case Refused (Value q) k = let z : _≡_ {A = ℕ} 0 1 = cc in absurd (omega arith)
+one-case Refused Refused k = refl
+
+pub answer-is : (a : Root) (x : Float) → outcomeOf a ≡ rootOutcome binary64 x → a ≡ answer x
+answer-is a x k = one-case a (answer x) (k ∙ sym (outcome-answer x))
+
+-- THE ANSWER IS WHAT DOCUMENT 01 ASKS, for every f64 (each fits its format).
 pub asked : (x : Float) → T (fits binary64 x) → Asked x (answer x)
 unfolding rooted rootOf
 asked nan h = refl
 asked (inf s) h = refl
-asked (fin s zero e) h = (refl, refl)
+asked (fin s zero e) h = refl
 asked (fin true (suc m) e) h = refl
-asked (fin false (suc m) e) h = (rootOf binary64 (fin false (suc m) e), (refl, refl), root-nearest binary64 m e h)
-
-refuses : (a : Root) → Refuses a → a ≡ Refused
-refuses (Value r) k = absurd (omega arith)
-refuses Refused k = refl
-
-gives : (a : Root) (r : Float) → Gives a r → a ≡ Value r
-gives (Value q) r k = ap (λ (l : List Float). Value (getD l 0 nan)) (k .1)
-gives Refused r k = absurd (omega (arith, k .0))
+asked (fin false (suc m) e) h = (rootOf binary64 (fin false (suc m) e), refl, root-nearest binary64 m e h)
 
 -- AND NOTHING ELSE IS.
 pub asked-only : (x : Float) (a : Root) → T (fits binary64 x) → Asked x a → a ≡ answer x
 unfolding rooted rootOf
-asked-only nan a h k = refuses a k
-asked-only (inf s) a h k = refuses a k
-asked-only (fin s zero e) a h k = gives a (fin s zero e) k
-asked-only (fin true (suc m) e) a h k = refuses a k
-asked-only (fin false (suc m) e) a h k = gives a (k .0) (k .1) ∙ ap Value (root-only binary64 m e h (k .0) (k .2))
+asked-only nan a h k = one-case a Refused k
+asked-only (inf s) a h k = one-case a Refused k
+asked-only (fin s zero e) a h k = one-case a (Value (fin s zero e)) k
+asked-only (fin true (suc m) e) a h k = one-case a Refused k
+asked-only (fin false (suc m) e) a h k = one-case a (Value (k .0)) (k .1) ∙ ap Value (root-only binary64 m e h (k .0) (k .2))
 
 pub two-answers : (x : Float) (a b : Root) → T (fits binary64 x) → Asked x a → Asked x b → a ≡ b
 two-answers x a b h k l = asked-only x a h k ∙ sym (asked-only x b h l)
-
--- The number and the values of the answer: 0 and the root of what has one, 5 and nothing of what has none.
-pub answer-number : (x : Float) → numberOf (answer x) ≡ cond (rooted x) taken (number NUMBER)
-answer-number x = go (rooted x)
-  where
-    go : (b : Bool) → numberOf (given b (rootOf binary64 x)) ≡ cond b taken (number NUMBER)
-    go true = refl
-    go false = refl
-
-pub answer-values : (x : Float) → valuesOf (answer x) ≡ cond (rooted x) (rootOf binary64 x ∷ []) []
-answer-values x = go (rooted x)
-  where
-    go : (b : Bool) → valuesOf (given b (rootOf binary64 x)) ≡ cond b (rootOf binary64 x ∷ []) []
-    go true = refl
-    go false = refl
 
 -- ---- for callers
 -- Where a value is answered, x has a root, and the value is it.

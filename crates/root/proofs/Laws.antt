@@ -167,7 +167,7 @@ module _ (f : Format) (m : ℕ) (e : ℤ) (h : T (fits f (fin false (suc m) e)))
   root-nearest =
       record {
         held = root-fits;
-        number = root-rooted;
+        possible = root-rooted;
         nearest = λ s n d t.
             no-nearer (unitsOf f X * 2 ^ low f) (unitsOf f R) (unitsOf f (fin s n d)) s (root-nearer s n d t)
             (subst (λ (z : ℕ). Nearer (unitsOf f X * 2 ^ low f) (unitsOf f R) z) (units-zero f (pos 0)) (root-nearer false 0 (pos 0) (zero-fits f false)));
@@ -181,13 +181,13 @@ module _ (f : Format) (m : ℕ) (e : ℤ) (h : T (fits f (fin false (suc m) e)))
   -- AND NO OTHER VALUE IS AS NEAR
   pub root-only : (r : Float) → Nearest f (fin false (suc m) e) r → r ≡ rootOf f (fin false (suc m) e)
   unfolding rooted
-  root-only nan r = absurd (r .number)
-  root-only (inf s) r = absurd (r .number)
+  root-only nan r = absurd (r .possible)
+  root-only (inf s) r = absurd (r .possible)
   root-only (fin s zero d) r = absurd (no-root (sym (units-zero f d) ∙ only-at s zero d r ∙ root-at))
     where
       no-root : 0 ≡ A → ⊥
       no-root z = let p = root-pos in omega arith
-  root-only (fin true (suc n) d) r = absurd (r .number)
+  root-only (fin true (suc n) d) r = absurd (r .possible)
   root-only (fin false (suc n) d) r =
       same-value f (fin false (suc n) d) R false A (r .held) root-fits
       (subst (λ (k : ℕ). HasValue (fin false (suc n) d) false k (2 ^ low f)) (only-at false (suc n) d r ∙ root-at) (held f false (suc n) d (r .held) .value)) root-value
@@ -212,7 +212,7 @@ module _ (f : Format) (s : Bool) (e : ℤ) where
   unfolding rooted
   zero-nearest t d h = record {
     held = h;
-    number = tt;
+    possible = tt;
     nearest = λ b n k g.
         subst (λ (N : ℕ). NoNearer N (unitsOf f (fin t zero d)) b (unitsOf f (fin b n k))) (sym nothing)
         (subst (λ (a : ℕ). NoNearer 0 a b (unitsOf f (fin b n k))) (sym (units-zero f d)) (at-zero b (unitsOf f (fin b n k))));
@@ -226,7 +226,7 @@ module _ (f : Format) (s : Bool) (e : ℤ) where
 
   pub zero-only : (r : Float) → Nearest f (fin s zero e) r → (t : Bool) × (r ≡ fin t zero (pos 0))
   unfolding rooted
-  zero-only nan h = absurd (h .number)
-  zero-only (inf t) h = absurd (h .number)
+  zero-only nan h = absurd (h .possible)
+  zero-only (inf t) h = absurd (h .possible)
   zero-only (fin t zero d) h = (t, same-value f (fin t zero d) (fin t zero (pos 0)) t 0 (h .held) (zero-fits f t) (zero-value f t d) (zero-value f t (pos 0)))
   zero-only (fin t (suc n) d) h = absurd (lt-irrefl 0 (subst (λ (x : ℕ). 0 < x) (zero-units (fin t (suc n) d) h) (units-pos f t n d (h .held))))

@@ -1,15 +1,24 @@
--- What `square_root` answers, for every f64, with document 01's number and values for each case; and what document 01 asks of the answer. Definitions only.
+-- What `square_root` answers, for every f64: document 01's number and value for each case of the enum, and what document 01 asks of the answer. Definitions only.
 use mathlib.Core.Path.{_≡_}
 use mathlib.Core.Bool.{Bool, true, false}
-use mathlib.Core.List.{List, [], _∷_}
-use Prim.Native.Nat.{ℕ, zero, suc}
-use lib.Ieee.{Float, nan, inf, fin, binary64}
-use Rattle.floats.specs.Refusal.{NUMBER, number, taken}
+use Prim.Native.Nat.{zero, suc}
+use lib.Ieee.{Float, nan, inf, fin, Format, binary64}
+use Rattle.floats.specs.Refusal.{NUMBER, Outcome, refused, accepted, unless}
 use Rattle.root.specs.Definition.{rootOf, rooted}
 use Rattle.root.specs.Nearest.{Nearest}
 use Rattle.root.specs.declared.Root.{Root}
 use Rattle.root.specs.declared.Root.the-variants.{Value, Refused}
 
+-- each case of the enum: a value is accepted with it, the other case is refusal 5
+abbrev pub outcomeOf : Root → Outcome Float
+outcomeOf (Value r) = accepted r
+outcomeOf Refused = refused NUMBER
+
+-- either a root or refusal 5
+abbrev pub rootOutcome : Format → Float → Outcome Float
+rootOutcome f x = unless (rooted x) NUMBER (accepted (rootOf f x))
+
+-- the case with that outcome
 abbrev pub given : Bool → Float → Root
 given true r = Value r
 given false r = Refused
@@ -17,27 +26,11 @@ given false r = Refused
 abbrev pub answer : Float → Root
 answer x = given (rooted x) (rootOf binary64 x)
 
--- the number of each case, and the values that it carries
-abbrev pub numberOf : Root → ℕ
-numberOf (Value r) = taken
-numberOf Refused = number NUMBER
-
-abbrev pub valuesOf : Root → List Float
-valuesOf (Value r) = r ∷ []
-valuesOf Refused = []
-
--- an answer that refuses, and one that gives r
-abbrev pub Refuses : Root → Type 0
-Refuses a = numberOf a ≡ number NUMBER
-
-abbrev pub Gives : Root → Float → Type 0
-Gives a r = (numberOf a ≡ taken) × (valuesOf a ≡ r ∷ [])
-
--- What document 01 asks of the answer a for x, with no root worked out: a NaN, an infinity and what is below zero are refused, a zero of either sign is its own root,
+-- What document 01 asks of the answer a for an f64 x, with no root worked out: a NaN, an infinity and what is below zero are refused, a zero of either sign is its own root,
 -- and above zero no double is nearer to the exact root than the answer.
 abbrev pub Asked : Float → Root → Type 0
-Asked nan a = Refuses a
-Asked (inf s) a = Refuses a
-Asked (fin s zero e) a = Gives a (fin s zero e)
-Asked (fin true (suc m) e) a = Refuses a
-Asked (fin false (suc m) e) a = (r : Float) × Gives a r × Nearest binary64 (fin false (suc m) e) r
+Asked nan a = outcomeOf a ≡ refused NUMBER
+Asked (inf s) a = outcomeOf a ≡ refused NUMBER
+Asked (fin s zero e) a = outcomeOf a ≡ accepted (fin s zero e)
+Asked (fin true (suc m) e) a = outcomeOf a ≡ refused NUMBER
+Asked (fin false (suc m) e) a = (r : Float) × (outcomeOf a ≡ accepted r) × Nearest binary64 (fin false (suc m) e) r

@@ -19,14 +19,14 @@ nearRoot d n = let q = floorRoot d n in cond (ltb q (n - q * q)) (q + 1) q
 abbrev pub dropped : Format → ℕ → ℕ
 dropped f n = (size (n * 2 ^ low f) + 1) / 2 - prec f
 
--- the root of n units, n > 0: the whole number nearest to the root of what is left of n * 2 ^ low when two digits are dropped for each of the root's
+-- the root of n units, n > 0 (`odd p s q k l` of lib.Ieee is the value ±q * 2 ^ (k - l)): the whole number nearest to the root of what is left of n * 2 ^ low when two digits are dropped for each of the root's
 unfoldable pub rootUnits : Format → ℕ → Float
 unfolding nearRoot size odd
 rootUnits f n =
     let k = dropped f n in
     odd (prec f) false (nearRoot (prec f) (n * 2 ^ low f / 2 ^ (2 * k))) k (low f)
 
--- squareRoot of every value: a zero of either sign is its own root, and what is below zero has none
+-- squareRoot of every value that fits the format, as IEEE 754 has it: a zero of either sign is its own root, that of +infinity is +infinity, and what is below zero has none, which is NaN
 unfoldable pub rootOf : Format → Float → Float
 unfolding rootUnits
 rootOf f nan = nan
@@ -36,7 +36,7 @@ rootOf f (fin s zero e) = fin s zero e
 rootOf f (fin true (suc m) e) = nan
 rootOf f (fin false (suc m) e) = rootUnits f (unitsOf f (fin false (suc m) e))
 
--- the values that have a root among the finite values: the zeros, and what is finite and above zero
+-- the values that have a finite root, which are those that document 01 takes, and that a root can be: the zeros, and what is finite and above zero
 unfoldable pub rooted : Float → Bool
 rooted nan = false
 rooted (inf s) = false

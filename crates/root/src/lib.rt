@@ -4,7 +4,7 @@ ghost use mathlib.Core.Path.{_≡_};
 ghost use Prim.Native.Nat.{ℕ, _*_, _^_, _≤_, _<_};
 ghost use lib.Ieee.{binary64, ofBits};
 ghost use Rattle.root.specs.Definition.{rootOf, rootUnits, nearRoot};
-ghost use Rattle.root.specs.Answer.{answer};
+ghost use Rattle.root.specs.Answer.{outcomeOf, rootOutcome};
 
 pub enum Root {
     Value(f64),
@@ -36,16 +36,17 @@ fn nearest_root(d: u64) -> u64
     if y > 2 * q { q + 1 } else { q }
 }
 
-// The root of s * 2^(a - 2096), where s has all 53 digits: n units of 2^-1074, with n * 2^1022 = s * 2^a.
-// One digit goes over to s where a is odd; half of what is left of a is the root's exponent.
+// The root of n units of 2^-1074 where n * 2^1022 = s * 2^a and s has all 53 digits: of s * 2^(a - 1022 - 1074).
+// One digit goes over to s where a is odd. The whole number nearest to the root of s * 2^52 then has 53 digits too, and half of a,
+// with the one that the left-out leading digit stands for, is the exponent's field.
 fn normal_root(s: u64, a: u64) -> f64
     requires { ⌜ (2 ^ 52 ≤ s) × (s < 2 ^ 53) × (a < 3068) ⌝ }
     ensures { λ r. ⌜ ((n : ℕ) → n * 2 ^ 1022 ≡ s * 2 ^ a → r ≡ rootUnits binary64 n) ⌝ }
 {
     let d = if a & 1 == 1 { 2 * s } else { s };
     let q = nearest_root(d);
-    // the format leaves out the leading digit of q
     let exponent = (a >> 1) + 1;
+    // the format leaves out the leading digit of q, which has 53
     let fraction = q & 0xf_ffff_ffff_ffff;
     f64::from_bits((exponent << 52) | fraction)
 }
@@ -66,10 +67,11 @@ fn positive_root(b: u64) -> f64
     }
 }
 
-// The double nearest to the root of x. Of a NaN, an infinity and what is below zero there is none.
+// The double nearest to the root of x. A NaN, an infinity and what is below zero are refused: IEEE 754 gives the infinity a root, but no finite one.
 pub fn square_root(x: f64) -> Root
-    ensures { λ r. ⌜ r ≡ answer x ⌝ }
+    ensures { λ r. ⌜ outcomeOf r ≡ rootOutcome binary64 x ⌝ }
 {
+    // a NaN has no one pattern, so it is told before the bits are taken
     if x != x {
         return Root::Refused;
     }

@@ -12,7 +12,7 @@ use Rattle.floats.specs.Refusal.{Refusal, RANGE, number, Outcome, refused, acce
 use Rattle.floats.specs.Numbers.{zeros}
 use Rattle.matrix.specs.Results.{worked}
 use Rattle.matrix.specs.Factor.{refusedBy, factorOf}
-use Rattle.matrix.proofs.Results.{number-above}
+use Rattle.floats.proofs.Refusals.{number-above}
 use Rattle.matrix.proofs.Roots.{above-value, above-never}
 use Rattle.matrix.proofs.FactorSteps.{ColumnsAt, RowsAt, columns-begin, columns-end, column-goes, column-stops, rows-end, row-goes, row-stops}
 use Rattle.matrix.proofs.factor.cholesky_decompose_lower.Statement.{statement}

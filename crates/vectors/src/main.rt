@@ -1,0 +1,163 @@
+// Reads records on standard input and writes a line of answer to each. A record is a word that says what to run, then the words that this takes;
+// a word is 16 hex digits and a newline. An unknown first word or a bad word is answered `bad` and ends the run, as the end of the input does.
+// An answer is a refusal, or 0, then its numbers, each after a space. vectors/leaves.py writes what it reads here and what it must answer.
+ghost use mathlib.Core.Path.{_≡_};
+ghost use Prim.Native.Nat.{_≤_};
+ghost use Rattle.vectors.specs.Lines.{lineOf};
+use libc::STDIN_FILENO;
+use libc::STDOUT_FILENO;
+use root::Root;
+use words::Word;
+
+// The word on a line.
+fn word_of(line: &[u8; 17]) -> Word
+    ensures { λ r. ⌜ r ≡ lineOf (now (line .entry)) ⌝ }
+{
+    if line[16] != 10 {
+        return Word::Bad;
+    }
+    words::word_at(line, 0)
+}
+
+// The word that the next 17 bytes of the input are.
+fn next_word() -> Word {
+    let mut line = [0u8; 17];
+    if io::read_full(STDIN_FILENO, &mut line) != 17 {
+        return Word::Bad;
+    }
+    word_of(&line)
+}
+
+// The next k words of the input, as floats at the front of out, which has room for them; whether they are all words.
+fn fill(out: &mut [f64], k: usize) -> bool {
+    let mut i = 0usize;
+    while i < k {
+        if i >= out.len() {
+            return false;
+        }
+        let Word::Bits(b) = next_word() else {
+            return false;
+        };
+        out[i] = words::float_of(b);
+        i += 1;
+    }
+    true
+}
+
+// The next word of the input, as a count of at most `most`; 0 where it is none.
+fn next_count(most: u64) -> u64
+    ensures { λ r. ⌜ r ≤ most ⌝ }
+{
+    let Word::Bits(b) = next_word() else {
+        return 0;
+    };
+    if b > most {
+        return 0;
+    }
+    b
+}
+
+// One byte of an answer.
+fn put_byte(c: u8) {
+    let text = [c];
+    io::write_all(STDOUT_FILENO, &text);
+}
+
+// A refusal, or 0: one digit.
+fn put_refusal(r: u8) {
+    if r < 10 {
+        put_byte(48 + r);
+    }
+}
+
+// A space and the word of x.
+fn put_number(x: f64) {
+    put_byte(32);
+    io::print_hex(STDOUT_FILENO, words::bits_of(x), 16);
+}
+
+// The first k numbers of s, as far as it has them.
+fn put_numbers(s: &[f64], k: usize) {
+    let mut i = 0usize;
+    while i < k {
+        if i >= s.len() {
+            return;
+        }
+        put_number(s[i]);
+        i += 1;
+    }
+}
+
+// The end of a record's answer: the run goes on.
+fn end_line() -> bool {
+    put_byte(10);
+    true
+}
+
+// The answer to what is no record: the run ends.
+fn say_bad() -> bool {
+    io::write_all(STDOUT_FILENO, b"bad\n");
+    false
+}
+
+// 1: the root of a number.
+fn answer_root() -> bool {
+    let mut a = [0.0f64; 1];
+    if !fill(&mut a, 1) {
+        return say_bad();
+    }
+    let r = root::square_root(a[0]);
+    match r {
+        Root::Value(v) => {
+            put_refusal(0);
+            put_number(v);
+        }
+        Root::Refused => put_refusal(5),
+    }
+    end_line()
+}
+
+// 2: the wrap of d by h.
+fn answer_wrap() -> bool {
+    let mut a = [0.0f64; 2];
+    if !fill(&mut a, 2) {
+        return say_bad();
+    }
+    let w = angles::wrap(a[0], a[1]);
+    put_refusal(w.refusal);
+    put_number(w.value);
+    end_line()
+}
+
+// The record that a first word starts; whether the run goes on.
+fn answer(tag: u64) -> bool {
+    match tag {
+        1 => answer_root(),
+        2 => answer_wrap(),
+        _ => say_bad(),
+    }
+}
+
+// One record; whether the run goes on.
+fn answer_next() -> bool {
+    let mut line = [0u8; 17];
+    let got = io::read_full(STDIN_FILENO, &mut line);
+    if got == 0 {
+        return false;
+    }
+    if got != 17 {
+        return say_bad();
+    }
+    let Word::Bits(tag) = word_of(&line) else {
+        return say_bad();
+    };
+    answer(tag)
+}
+
+// A proved loop has to end, and nothing says that the input does: the turns are counted down from a number that no run uses up.
+fn main() {
+    let mut turns = u64::MAX;
+    while turns > 0 && answer_next() {
+        turns -= 1;
+    }
+}

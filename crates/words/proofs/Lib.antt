@@ -1,0 +1,3 @@
+-- Laws that the proofs of `words` cite.
+pub mod Bits
+pub mod Digits

@@ -1,0 +1,25 @@
+-- A word: 16 hex digits, the bits of a float. Definitions only.
+use Prim.Native.Nat.{ℕ, zero, suc, _+_, _-_, _*_}
+use mathlib.Core.Bool.{Bool, _&&_, cond}
+use mathlib.Core.List.{List}
+use lib.Dec.{leb, ltb}
+use lib.ListN.{getD}
+use Rattle.words.specs.declared.Word.{Word}
+use Rattle.words.specs.declared.Word.the-variants.{Bits, Bad}
+
+abbrev pub between : ℕ → ℕ → ℕ → Bool
+between a b c = leb a c && leb c b
+
+-- the value of a hex digit of either case, given as its byte; 16 for any other byte
+unfoldable pub digitOf : ℕ → ℕ
+digitOf c = cond (between 48 57 c) (c - 48) (cond (between 97 102 c) (c - 87) (cond (between 65 70 c) (c - 55) 16))
+
+-- k digits of s from place i on, after those that came to v
+unfoldable pub digitsFrom : ℕ → List ℕ → ℕ → ℕ → Word
+unfolding digitOf
+digitsFrom zero s i v = Bits v
+digitsFrom (suc k) s i v = cond (ltb (digitOf (getD s i 0)) 16) (digitsFrom k s (i + 1) (v * 16 + digitOf (getD s i 0))) Bad
+
+-- the word that starts at place i
+abbrev pub wordOf : List ℕ → ℕ → Word
+wordOf s i = digitsFrom 16 s i 0
