@@ -1,5 +1,4 @@
-"""The lists of roots (tag 1) and wraps (tag 2). Run, it writes crates/vectors/stdin and crates/vectors/stdout, always the same ones:
-the program crates/vectors answers the first, and must write the second.
+"""The lists of roots (tag 1) and wraps (tag 2) for the program crates/vectors; make.py writes them.
 The roots expected here are the machine's square root, each checked by exact fractions to be the nearest; the wraps are worked by exact fractions;
 the refusals are those of the specification's table."""
 import math
@@ -8,7 +7,7 @@ import sys
 from fractions import Fraction
 
 sys.dont_write_bytecode = True
-from records import bits_of, float_of, word, write
+from records import bits_of, float_of, word
 
 SEED = 20240611
 ROOTS = 3000
@@ -208,7 +207,3 @@ def records():
         yield 1, ['%016x' % b], root_answer(b)
     for d, h in wrap_bits():
         yield 2, ['%016x' % d, '%016x' % h], wrap_answer(d, h)
-
-
-if __name__ == '__main__':
-    write(records())

@@ -1,11 +1,16 @@
 // Reads records on standard input and writes a line of answer to each. A record is a word that says what to run, then the words that this takes;
 // a word is 16 hex digits and a newline. An unknown first word or a bad word is answered `bad` and ends the run, as the end of the input does.
-// An answer is a refusal, or 0, then its numbers, each after a space. vectors/leaves.py writes what it reads here and what it must answer.
+// An answer is a refusal, or 0, then its numbers, each after a space. vectors/make.py writes what it reads here and what it must answer.
 ghost use mathlib.Core.Path.{_≡_};
 ghost use Prim.Native.Nat.{_≤_};
 ghost use Rattle.vectors.specs.Lines.{lineOf};
 use libc::STDIN_FILENO;
 use libc::STDOUT_FILENO;
+use matrix::factor;
+use matrix::factor::Pivots;
+use matrix::inverse;
+use matrix::product;
+use matrix::sums;
 use root::Root;
 use words::Word;
 
@@ -55,6 +60,14 @@ fn next_count(most: u64) -> u64
         return 0;
     }
     b
+}
+
+// How many cells so many rows of so many have.
+fn cells(rows: usize, columns: usize) -> usize
+    requires { ⌜ (rows ≤ 8) × (columns ≤ 8) ⌝ }
+    ensures { λ r. ⌜ r ≤ 64 ⌝ }
+{
+    rows * columns
 }
 
 // One byte of an answer.
@@ -129,11 +142,83 @@ fn answer_wrap() -> bool {
     end_line()
 }
 
+// 3: the factor of a matrix of P (7) or of S (8), of n rows.
+fn answer_factor() -> bool {
+    let of = if next_count(8) == 7 { Pivots::OfP } else { Pivots::OfS };
+    let n = next_count(8) as usize;
+    let mut a = [0.0f64; 64];
+    if !fill(&mut a, cells(n, n)) {
+        return say_bad();
+    }
+    let f = factor::cholesky_decompose_lower(&a, n, of);
+    put_refusal(f.refusal);
+    if f.refusal == 0 {
+        put_numbers(&f.l, cells(n, n));
+    }
+    end_line()
+}
+
+// 4: the inverse from a factor of m rows.
+fn answer_inverse() -> bool {
+    let m = next_count(8) as usize;
+    let mut l = [0.0f64; 64];
+    if !fill(&mut l, cells(m, m)) {
+        return say_bad();
+    }
+    let v = inverse::invert_l_cholesky(&l, m);
+    put_numbers(&v, cells(m, m));
+    end_line()
+}
+
+// 5: A times the transpose of B, for n rows of d numbers and m rows of d.
+fn answer_product() -> bool {
+    let n = next_count(8) as usize;
+    let m = next_count(8) as usize;
+    let d = next_count(8) as usize;
+    let mut a = [0.0f64; 64];
+    let mut b = [0.0f64; 64];
+    if !fill(&mut a, cells(n, d)) {
+        return say_bad();
+    }
+    if !fill(&mut b, cells(m, d)) {
+        return say_bad();
+    }
+    let c = product::mult_transb(&a, n, &b, m, d);
+    put_numbers(&c, cells(n, m));
+    end_line()
+}
+
+// 6 and 7: a + b and a - b, of k numbers each.
+fn answer_sum(minus: bool) -> bool {
+    let k = next_count(64) as usize;
+    let mut a = [0.0f64; 64];
+    let mut b = [0.0f64; 64];
+    if !fill(&mut a, k) {
+        return say_bad();
+    }
+    if !fill(&mut b, k) {
+        return say_bad();
+    }
+    if minus {
+        let c = sums::minus(k, &a, &b);
+        put_numbers(&c, k);
+    } else {
+        let c = sums::plus(k, &a, &b);
+        put_numbers(&c, k);
+    }
+    end_line()
+}
+
 // The record that a first word starts; whether the run goes on.
 fn answer(tag: u64) -> bool {
     match tag {
         1 => answer_root(),
         2 => answer_wrap(),
+        3 => answer_factor(),
+        4 => answer_inverse(),
+        5 => answer_product(),
+        6 => answer_sum(false),
+        7 => answer_sum(true),
         _ => say_bad(),
     }
 }
