@@ -13,10 +13,11 @@ use Rattle.floats.specs.Refusal.{Refusal, NUMBER, RANGE, number, Outcome, refus
 use Rattle.floats.specs.Numbers.{allFinite}
 use Rattle.floats.proofs.Refusals.{refused-never, gave-zero, gave-number, onward-same, onward-unless, passed, failed}
 use Rattle.root.specs.Definition.{rootOf}
-use Rattle.root.specs.Answer.{answer}
+use Rattle.root.specs.Answer.{outcomeOf, rootOutcome}
+use Rattle.root.specs.declared.Root.{Root}
 use Rattle.root.specs.declared.Root.the-variants.{Value, Refused}
 use Rattle.matrix.specs.Results.{Result, numbers, rooting, good, refusalOf, First, now, later, Work, made, check, worked, results, product, then, listed, Plan, finish, after, run, planned}
-use Rattle.matrix.proofs.Roots.{answer-value, answer-refused}
+use Rattle.matrix.proofs.Roots.{root-value, root-refused}
 
 -- ---- works
 
@@ -127,15 +128,15 @@ module _ {A : Type 0} where
         let g = gave-number (worked w) (λ z. t (n ∙ z)) in
         (g .0, rw (g .1) at (at .is), n ∙ g .2)
 
-  -- x is a number whose root is taken, and its answer is taken apart
-  module _ {o : Outcome A} {x : Float} {κ : Float → Plan A} (at : Comes o (after (check (rooting x) (made (rootOf binary64 x))) κ)) where
-    pub root-goes : {d : Float} → answer x ≡ Value d → Comes o (κ d)
+  -- x is a number whose root is taken, and the answer q is taken apart
+  module _ {o : Outcome A} {x : Float} {κ : Float → Plan A} (at : Comes o (after (check (rooting x) (made (rootOf binary64 x))) κ)) {q : Root} (told : outcomeOf q ≡ rootOutcome binary64 x) where
+    pub root-goes : {d : Float} → q ≡ Value d → Comes o (κ d)
     unfolding run worked
-    root-goes {d} t = let h = answer-value x d t in record { is = rw (h .0, h .1) at (at .is) }
+    root-goes t = let h = root-value x told t in record { is = rw (h .0, h .1) at (at .is) }
 
-    pub root-stops : answer x ≡ Refused → o ≡ refused NUMBER
+    pub root-stops : q ≡ Refused → o ≡ refused NUMBER
     unfolding run worked
-    root-stops t = rw (answer-refused x t) at (at .is)
+    root-stops t = rw (root-refused x told t) at (at .is)
 
 -- what the code returns, where a callee has made the refusal's answer
 pub refused-as : {A B : Type 0} (h : Outcome A → B) {o : Outcome A} {q : B} {r : Refusal} → q ≡ h (refused r) → o ≡ refused r → q ≡ h o

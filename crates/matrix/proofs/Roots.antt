@@ -1,43 +1,32 @@
--- The root's answer taken apart: a value is the root of a number that has one; a number finite and above 0 is never refused. Assumes nothing.
-use Prim.Native.Nat.{ℕ}
-use mathlib.Core.Path.{_≡_, refl, sym, _∙_}
-use mathlib.Core.Bool.{Bool, true, false}
-use native.Mathlib.Omega.{arith}
+-- The root's answer q for x taken apart: a value is the root of a number that has one; a number finite and above 0 is never refused. Assumes nothing.
+use mathlib.Core.Path.{_≡_, refl, sym, ap, _∙_}
+use mathlib.Core.Bool.{true, false, true≢false}
+use mathlib.Core.Logic.{⊎-elim}
 use lib.Ieee.{Float, binary64}
+use Rattle.floats.specs.Refusal.{NUMBER, refused, accepted}
 use Rattle.floats.specs.Numbers.{aboveZero}
+use Rattle.floats.proofs.Refusals.{refused-never, passed, failed}
 use Rattle.root.specs.Definition.{rootOf, rooted}
-use Rattle.root.specs.Answer.{outcomeOf, rootOutcome, answer}
+use Rattle.root.specs.Answer.{outcomeOf, rootOutcome}
 use Rattle.root.specs.declared.Root.{Root}
 use Rattle.root.specs.declared.Root.the-variants.{Value, Refused}
-use Rattle.root.proofs.Answers.{answer-is, above-has-root}
+use Rattle.root.proofs.Answers.{above-rooted}
 
-value-same : {d e : Float} → Value d ≡ Value e → d ≡ e
-value-same h = cc
+module _ {q : Root} (x : Float) (told : outcomeOf q ≡ rootOutcome binary64 x) where
+  pub root-value : {d : Float} → q ≡ Value d → (rooted x ≡ true) × (rootOf binary64 x ≡ d)
+  root-value {d} h =
+      let k = passed (rooted x) NUMBER (accepted (rootOf binary64 x)) d (sym told ∙ ap outcomeOf h) in
+      let e : accepted (rootOf binary64 x) ≡ accepted d = k .1 in
+      (k .0, cc)
 
-value-never : {d : Float} → Value d ≡ Refused → ⊥
-value-never h = let z : _≡_ {A = ℕ} 0 1 = cc in omega arith
+  pub root-refused : q ≡ Refused → rooted x ≡ false
+  root-refused h =
+      ⊎-elim (λ k. k .0) (λ k. absurd (refused-never (sym (k .1)))) (failed (rooted x) NUMBER NUMBER (accepted (rootOf binary64 x)) (sym told ∙ ap outcomeOf h))
 
-pub answer-value : (x d : Float) → answer x ≡ Value d → (rooted x ≡ true) × (rootOf binary64 x ≡ d)
-answer-value x d t = go (rooted x) refl
-  where
-    go : (b : Bool) → rooted x ≡ b → (rooted x ≡ true) × (rootOf binary64 x ≡ d)
-    go true h = (h, value-same (rw h at t))
-    go false h = absurd (value-never (sym (rw h at t)))
+  -- of a pivot x that has passed
+  module _ (t : aboveZero x ≡ true) where
+    pub above-value : {d : Float} → q ≡ Value d → d ≡ rootOf binary64 x
+    above-value h = sym (root-value h .1)
 
-pub answer-refused : (x : Float) → answer x ≡ Refused → rooted x ≡ false
-answer-refused x t = go (rooted x) refl
-  where
-    go : (b : Bool) → rooted x ≡ b → rooted x ≡ false
-    go true h = absurd (value-never (rw h at t))
-    go false h = h
-
--- q is what the root answered for a pivot x that has passed
-module _ {q : Root} (x : Float) (t : aboveZero x ≡ true) (told : outcomeOf q ≡ rootOutcome binary64 x) where
-  is : q ≡ answer x
-  is = answer-is q x told
-
-  pub above-value : {d : Float} → q ≡ Value d → d ≡ rootOf binary64 x
-  above-value h = value-same (sym h ∙ is ∙ above-has-root x t)
-
-  pub above-never : q ≡ Refused → ⊥
-  above-never h = value-never (sym (above-has-root x t) ∙ sym is ∙ h)
+    pub above-never : q ≡ Refused → ⊥
+    above-never h = true≢false (sym (above-rooted x t) ∙ root-refused h)

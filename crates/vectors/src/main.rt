@@ -144,7 +144,11 @@ fn answer_wrap() -> bool {
 
 // 3: the factor of a matrix of P (7) or of S (8), of n rows.
 fn answer_factor() -> bool {
-    let of = if next_count(8) == 7 { Pivots::OfP } else { Pivots::OfS };
+    let of = if next_count(8) == 7 {
+        Pivots::OfP
+    } else {
+        Pivots::OfS
+    };
     let n = next_count(8) as usize;
     let mut a = [0.0f64; 64];
     if !fill(&mut a, cells(n, n)) {

@@ -1,0 +1,5 @@
+pub mod Weights
+pub mod Draw
+pub mod Mean
+pub mod Spread
+pub mod Predict

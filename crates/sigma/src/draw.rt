@@ -1,0 +1,76 @@
+// The draw of 2n+1 points from x and P.
+ghost use mathlib.Core.Path.{_≡_};
+ghost use Prim.Native.Nat.{_+_, _<_, _≤_};
+ghost use lib.Ieee.{binary64};
+ghost use Rattle.sigma.specs.Draw.{pointAt, pointsOf, drawOf, drawn, undrawn};
+use crate::Drawn;
+use matrix::factor;
+use matrix::factor::Pivots;
+use matrix::sums;
+use root::Root;
+
+// Number i of point k: point 0 is x, then come n points x[i] + s·L[i][j], and n points x[i] − s·L[i][j].
+fn point_at(n: usize, x: &[f64; 8], l: &[f64; 64], s: f64, k: usize, i: usize) -> f64
+    requires { ⌜ (n ≤ 8) × (i < n) × (k ≤ n + n) ⌝ }
+    ensures { λ r. ⌜ r ≡ pointAt binary64 n (now (x .entry)) (now (l .entry)) s k i ⌝ }
+{
+    if k == 0 {
+        return x[i];
+    }
+    if k <= n {
+        let at = sums::cell(i, n, k - 1);
+        return x[i] + s * l[at];
+    }
+    let at = sums::cell(i, n, k - 1 - n);
+    x[i] - s * l[at]
+}
+
+fn points(n: usize, x: &[f64; 8], l: &[f64; 64], s: f64) -> [f64; 136]
+    requires { ⌜ n ≤ 8 ⌝ }
+    ensures { λ r. ⌜ r ≡ pointsOf binary64 n (now (x .entry)) (now (l .entry)) s ⌝ }
+{
+    let mut out = [0.0f64; 136];
+    let mut k = 0usize;
+    while k <= n + n {
+        let mut i = 0usize;
+        while i < n {
+            let at = crate::place(k, n, i);
+            out[at] = point_at(n, x, l, s, k, i);
+            i += 1;
+        }
+        k += 1;
+    }
+    out
+}
+
+// A refused draw.
+fn refuse(refusal: u8) -> Drawn
+    ensures { λ r. ⌜ r ≡ undrawn refusal ⌝ }
+{
+    Drawn {
+        refusal,
+        points: [0.0f64; 136],
+    }
+}
+
+// The factor of P (7, 9), the root of N (5), and all points (9): the first refusal decides.
+pub fn generate_sigma_points(n: usize, x: &[f64; 8], p: &[f64; 64], scale: f64) -> Drawn
+    requires { ⌜ n ≤ 8 ⌝ }
+    ensures { λ r. ⌜ r ≡ drawn (drawOf binary64 n (now (x .entry)) (now (p .entry)) scale) ⌝ }
+{
+    let f = factor::cholesky_decompose_lower(p, n, Pivots::OfP);
+    if f.refusal != 0 {
+        return refuse(f.refusal);
+    }
+    let Root::Value(s) = root::square_root(scale) else {
+        return refuse(5);
+    };
+    let q = points(n, x, &f.l, s);
+    if !floats::all_finite(&q, (n + n + 1) * n) {
+        return refuse(9);
+    }
+    Drawn {
+        refusal: 0,
+        points: q,
+    }
+}
