@@ -8,7 +8,5 @@ import leaves
 import steps
 from records import write
 
-# the tags that the program knows
-LAST = 7
 
-write(itertools.chain(leaves.records(), (record for record in steps.records() if record[0] <= LAST)))
+write(itertools.chain(leaves.records(), steps.records()))

@@ -4,6 +4,8 @@
 ghost use mathlib.Core.Path.{_≡_};
 ghost use Prim.Native.Nat.{_≤_};
 ghost use Rattle.vectors.specs.Lines.{lineOf};
+use angles::Kind;
+use angles::Residual;
 use libc::STDIN_FILENO;
 use libc::STDOUT_FILENO;
 use matrix::factor;
@@ -12,6 +14,11 @@ use matrix::inverse;
 use matrix::product;
 use matrix::sums;
 use root::Root;
+use sigma::Moments;
+use sigma::Params;
+use sigma::draw;
+use sigma::predict;
+use sigma::weights;
 use words::Word;
 
 // The word on a line.
@@ -68,6 +75,14 @@ fn cells(rows: usize, columns: usize) -> usize
     ensures { λ r. ⌜ r ≤ 64 ⌝ }
 {
     rows * columns
+}
+
+// How many numbers the points of n states have, m a point.
+fn points(n: usize, m: usize) -> usize
+    requires { ⌜ (n ≤ 8) × (m ≤ 8) ⌝ }
+    ensures { λ r. ⌜ r ≤ 136 ⌝ }
+{
+    (n + n + 1) * m
 }
 
 // One byte of an answer.
@@ -213,6 +228,210 @@ fn answer_sum(minus: bool) -> bool {
     end_line()
 }
 
+// Three parameters, and whether there were three numbers.
+struct ParamsGiven {
+    ok: bool,
+    params: Params,
+}
+
+fn next_params() -> ParamsGiven {
+    let mut a = [0.0f64; 3];
+    let ok = fill(&mut a, 3);
+    ParamsGiven {
+        ok,
+        params: Params {
+            alpha: a[0],
+            beta: a[1],
+            kappa: a[2],
+        },
+    }
+}
+
+// Kinds, and whether they were all there: for each a count, 0 plain or 1 a turn, and a half-turn.
+struct KindsGiven {
+    ok: bool,
+    kinds: [Kind; 8],
+}
+
+fn next_kinds(k: usize) -> KindsGiven {
+    let plain = Kind {
+        residual: Residual::Plain,
+    };
+    let mut kinds = [plain; 8];
+    let mut ok = true;
+    let mut i = 0usize;
+    while i < k {
+        if i >= 8 {
+            return KindsGiven { ok: false, kinds };
+        }
+        let turn = next_count(1);
+        let mut h = [0.0f64; 1];
+        if !fill(&mut h, 1) {
+            ok = false;
+        }
+        if turn == 1 {
+            kinds[i] = Kind {
+                residual: Residual::Turn(h[0]),
+            };
+        }
+        i += 1;
+    }
+    KindsGiven { ok, kinds }
+}
+
+// 8: whether the weights of n states pass 6, then N, w0m, w0c and wi.
+fn answer_weights() -> bool {
+    let n = next_count(8) as usize;
+    let g = next_params();
+    if !g.ok {
+        return say_bad();
+    }
+    let params = g.params;
+    if weights::weights_pass(n, params) {
+        put_byte(49);
+    } else {
+        put_byte(48);
+    }
+    let w = weights::compute_weights(n, params);
+    put_number(w.scale);
+    put_number(w.w0m);
+    put_number(w.w0c);
+    put_number(w.wi);
+    end_line()
+}
+
+// 9: the points drawn from x and P.
+fn answer_draw() -> bool {
+    let n = next_count(8) as usize;
+    let g = next_params();
+    let mut x = [0.0f64; 8];
+    let mut p = [0.0f64; 64];
+    if !g.ok {
+        return say_bad();
+    }
+    if !fill(&mut x, n) {
+        return say_bad();
+    }
+    if !fill(&mut p, cells(n, n)) {
+        return say_bad();
+    }
+    let d = draw::generate_sigma_points(n, &x, &p, weights::scale(n, g.params));
+    put_refusal(d.refusal);
+    if d.refusal == 0 {
+        put_numbers(&d.points, points(n, n));
+    }
+    end_line()
+}
+
+// What a close gives.
+fn put_moments(n: usize, q: Moments)
+    requires { ⌜ n ≤ 8 ⌝ }
+{
+    put_refusal(q.refusal);
+    if q.refusal == 0 {
+        put_numbers(&q.x, n);
+        put_numbers(&q.p, cells(n, n));
+    }
+}
+
+// 10: x and P from propagated points, the weights those of the parameters.
+fn answer_prediction() -> bool {
+    let n = next_count(8) as usize;
+    let g = next_params();
+    let k = next_kinds(n);
+    let mut q = [0.0f64; 64];
+    let mut s = [0.0f64; 136];
+    if !g.ok {
+        return say_bad();
+    }
+    if !k.ok {
+        return say_bad();
+    }
+    if !fill(&mut q, cells(n, n)) {
+        return say_bad();
+    }
+    if !fill(&mut s, points(n, n)) {
+        return say_bad();
+    }
+    let params = g.params;
+    let kinds = k.kinds;
+    let w = weights::weights(n, params);
+    let r = predict::reconstruct_prediction(
+        n,
+        &s,
+        weights::center_weight(n, params),
+        &w,
+        kinds,
+        &q,
+    );
+    put_moments(n, r);
+    end_line()
+}
+
+// 11: x and P from observed points and a measurement, the weights those of the parameters.
+fn answer_correction() -> bool {
+    let n = next_count(8) as usize;
+    let m = next_count(4) as usize;
+    let g = next_params();
+    let k = next_kinds(n);
+    let l = next_kinds(m);
+    let mut x = [0.0f64; 8];
+    let mut p = [0.0f64; 64];
+    let mut z = [0.0f64; 8];
+    let mut r = [0.0f64; 64];
+    let mut s = [0.0f64; 136];
+    let mut o = [0.0f64; 136];
+    if !g.ok {
+        return say_bad();
+    }
+    if !k.ok {
+        return say_bad();
+    }
+    if !l.ok {
+        return say_bad();
+    }
+    if !fill(&mut x, n) {
+        return say_bad();
+    }
+    if !fill(&mut p, cells(n, n)) {
+        return say_bad();
+    }
+    if !fill(&mut z, m) {
+        return say_bad();
+    }
+    if !fill(&mut r, cells(m, m)) {
+        return say_bad();
+    }
+    if !fill(&mut s, points(n, n)) {
+        return say_bad();
+    }
+    if !fill(&mut o, points(n, m)) {
+        return say_bad();
+    }
+    let params = g.params;
+    let w = weights::weights(n, params);
+    let kinds = k.kinds;
+    let measured = l.kinds;
+    let four = [measured[0], measured[1], measured[2], measured[3]];
+    let w0m = weights::center_weight(n, params);
+    let q = correction::correct_with_weights_residuals(
+        n,
+        m,
+        &x,
+        &p,
+        &s,
+        &o,
+        w0m,
+        &w,
+        &z,
+        &r,
+        kinds,
+        four,
+    );
+    put_moments(n, q);
+    end_line()
+}
+
 // The record that a first word starts; whether the run goes on.
 fn answer(tag: u64) -> bool {
     match tag {
@@ -223,6 +442,10 @@ fn answer(tag: u64) -> bool {
         5 => answer_product(),
         6 => answer_sum(false),
         7 => answer_sum(true),
+        8 => answer_weights(),
+        9 => answer_draw(),
+        10 => answer_prediction(),
+        11 => answer_correction(),
         _ => say_bad(),
     }
 }

@@ -1,0 +1,163 @@
+//! Runs the published Rust on the smallest inputs that document 01 refuses, and the published wrap beside the exact one.
+//! Prints tables in plain text; docs/DIFFERENCES.md is written from them.
+
+use oracle::angles::{wrap_180, wrap_pi};
+use oracle::kinds::{wrap, Kind};
+use oracle::matrix::MatrixDataType;
+use oracle::published::{Held, Measurement, Published};
+use oracle::script::{bits, bits_of};
+use oracle::steps::Params;
+
+const C1: Params = Params { alpha: 1.0, beta: 0.0, kappa: 0.0 };
+const INFINITE: f64 = f64::INFINITY;
+const NAN: f64 = f64::NAN;
+
+fn main() {
+    println!("What document 01 refuses, and what the published Rust (over our leaves) gives there.");
+    println!("Unless it is said otherwise: C9's filter, n=1, x=2, P=4, Q=1, parameters 1, 0, 0, points propagated unchanged;");
+    println!("then C10's correction, z=3, R=12, observed 2, 4, 0. Leaves: the factor stops at the first refused entry and");
+    println!("leaves the rest as it stands; the published callers don't look at its answer.\n");
+    sizes();
+    stages();
+    numbers();
+    parameters();
+    pivots();
+    ranges();
+    println!("\nThe published wrap beside document 01's exact one; bits of both.\n");
+    wraps();
+}
+
+fn row(number: &str, input: &str, given: String) {
+    println!("{number:>4}  {input:<62}  {given}");
+}
+
+fn x_and_p(held: &dyn Published) -> String {
+    format!("x={:?} P={:?}", held.x(), held.p())
+}
+
+fn c9() -> Held<1, 3> {
+    one(2.0, 4.0, C1)
+}
+
+fn one(x: f64, p: f64, par: Params) -> Held<1, 3> {
+    Held::new(&[x], &[p], &[1.0], par)
+}
+
+/// After a prediction with the points as they were drawn.
+fn unmoved<const N: usize, const COUNT: usize>(mut held: Held<N, COUNT>) -> Held<N, COUNT> {
+    held.predict_by(|_| {});
+    held
+}
+
+/// C9, then a correction with these.
+fn corrected(z: f64, r: f64, observed: [f64; 3]) -> String {
+    let mut held = unmoved(c9());
+    held.correct(&Measurement { m: 1, z: &[z], r: &[r], kinds: &[Kind::Plain], observed: &observed });
+    x_and_p(&held)
+}
+
+fn sizes() {
+    row("", "nothing refused: C9", x_and_p(&unmoved(c9())));
+    row("", "nothing refused: C10", corrected(3.0, 12.0, [2.0, 4.0, 0.0]));
+    row("1", "n = 0 (no numbers at all)", x_and_p(&unmoved(Held::<0, 1>::new(&[], &[], &[], C1))));
+    let identity: Vec<f64> = (0..81).map(|at| if at % 10 == 0 { 1.0 } else { 0.0 }).collect();
+    let nine = unmoved(Held::<9, 19>::new(&[0.0; 9], &identity, &[0.0; 81], C1));
+    row("1", "n = 9, x = 0, P = 1 on the diagonal, Q = 0", format!("runs; P[0][0]={:?}", nine.p()[0]));
+    let mut held = unmoved(c9());
+    held.correct_of::<0>(&Measurement { m: 0, z: &[], r: &[], kinds: &[], observed: &[] });
+    row("1", "m = 0", x_and_p(&held));
+    let mut held = unmoved(c9());
+    let five: Vec<f64> = (0..25).map(|at| if at % 6 == 0 { 12.0 } else { 0.0 }).collect();
+    held.correct_of::<5>(&Measurement { m: 5, z: &[3.0; 5], r: &five, kinds: &[Kind::Plain; 5], observed: &[0.0; 15] });
+    row("1", "m = 5, z = 3, R = 12 on the diagonal, zeros observed", format!("runs; {}", x_and_p(&held)));
+    let odd = unmoved(Held::<1, 5>::new(&[2.0], &[4.0], &[1.0], C1));
+    row("1", "five points for one state (the type takes any count)", format!("{}, points {:?}", x_and_p(&odd), odd.points()));
+    row("2", "a short slice", "sizes are types: none can be short".into());
+}
+
+fn stages() {
+    row("3", "a setter, an open or a close at the wrong time", "closures: there is nothing to open".into());
+    row("4", "points read before any prediction", format!("points {:?}", c9().points()));
+    let mut held = unmoved(c9());
+    held.correct(&Measurement { m: 1, z: &[3.0], r: &[12.0], kinds: &[Kind::Plain], observed: &[2.0, 4.0, 0.0] });
+    row("4", "points read after C10 (x is 2.25 by then)", format!("points {:?}", held.points()));
+}
+
+fn numbers() {
+    row("5", "x = NaN", x_and_p(&unmoved(one(NAN, 4.0, C1))));
+    row("5", "P = NaN (no pivot: the points are x -+ NaN)", x_and_p(&unmoved(one(2.0, NAN, C1))));
+    row("5", "P = infinity (the factor is left as it stands)", x_and_p(&unmoved(one(2.0, INFINITE, C1))));
+    row("5", "Q = NaN", x_and_p(&unmoved(Held::<1, 3>::new(&[2.0], &[4.0], &[NAN], C1))));
+    row("5", "kappa = NaN", x_and_p(&unmoved(one(2.0, 4.0, Params { kappa: NAN, ..C1 }))));
+    row("5", "z = NaN: P as if all were well", corrected(NAN, 12.0, [2.0, 4.0, 0.0]));
+    row("5", "z = infinity: P as if all were well", corrected(INFINITE, 12.0, [2.0, 4.0, 0.0]));
+    row("5", "R = infinity: x and P left as they were, silently", corrected(3.0, INFINITE, [2.0, 4.0, 0.0]));
+    row("5", "R = NaN", corrected(3.0, NAN, [2.0, 4.0, 0.0]));
+    row("5", "one observed number infinite", corrected(3.0, 12.0, [2.0, INFINITE, 0.0]));
+    row("5", "root of -1", format!("{:?}", MatrixDataType::square_root(-1.0_f64)));
+    row("5", "root of infinity", format!("{:?}", MatrixDataType::square_root(INFINITE)));
+}
+
+fn parameters() {
+    row("6", "kappa = -1: N = 0 (C4)", x_and_p(&unmoved(one(2.0, 4.0, Params { kappa: -1.0, ..C1 }))));
+    row("6", "kappa = -2: N = -1", x_and_p(&unmoved(one(2.0, 4.0, Params { kappa: -2.0, ..C1 }))));
+    row("6", "alpha = 0: N = 0", x_and_p(&unmoved(one(2.0, 4.0, Params { alpha: 0.0, ..C1 }))));
+    row("6", "alpha = 1e200: N = infinity", x_and_p(&unmoved(one(2.0, 4.0, Params { alpha: 1.0e200, ..C1 }))));
+    row("6", "a half-turn h = 0 or below", "no half-turns: the hook may do anything".into());
+}
+
+fn pivots() {
+    row("7", "P = 0: predicts; all points are x", x_and_p(&unmoved(one(2.0, 0.0, C1))));
+    row("7", "P = -4: predicts with -4 as the factor, P becomes 16 + Q", x_and_p(&unmoved(one(2.0, -4.0, C1))));
+    let c8 = unmoved(Held::<2, 5>::new(&[0.0; 2], &[1.0, 2.0, 2.0, 1.0], &[0.0; 4], C1));
+    row("7", "C8: P = (1,2),(2,1), x = 0, Q = 0: half a factor is used", x_and_p(&c8));
+    row("8", "S = 0: R = 0, observed 2, 2, 2", corrected(3.0, 0.0, [2.0, 2.0, 2.0]));
+    row("8", "S = -4: R = -8, observed 2, 4, 0: used as if S were 16", corrected(3.0, -8.0, [2.0, 4.0, 0.0]));
+}
+
+fn ranges() {
+    let mut held = c9();
+    held.predict(&[0.0, 1.0e200, -1.0e200]);
+    row("9", "propagated 0, 1e200, -1e200: P overflows", x_and_p(&held));
+    held.correct(&Measurement { m: 1, z: &[3.0], r: &[12.0], kinds: &[Kind::Plain], observed: &[2.0, 4.0, 0.0] });
+    row("9", "  and after C10's correction", x_and_p(&held));
+    held.predict_by(|_| {});
+    row("9", "  and after one more prediction", x_and_p(&held));
+    let mut held = c9();
+    held.predict(&[1.5e308, -1.5e308, 0.0]);
+    row("9", "propagated 1.5e308, -1.5e308, 0: the mean overflows", x_and_p(&held));
+    row("9", "observed 0, 1e200, -1e200: S overflows; x and P left, silently", corrected(3.0, 12.0, [0.0, 1.0e200, -1.0e200]));
+    row("9", "S = 1e-310 (R), observed 2, 2, 2: the inverse overflows", corrected(3.0, 1.0e-310, [2.0, 2.0, 2.0]));
+    row("9", "z = 1.5e308, observed -1.5e308 thrice: y overflows", corrected(1.5e308, 12.0, [-1.5e308; 3]));
+}
+
+fn wraps() {
+    println!("{:>20} {:>4}  {:<16}  {:<16}  exact / published", "d", "h", "exact", "published");
+    // C6's; small ones; whole turns; one bit above a half-turn; so large that adding a half-turn is lost.
+    for d in [350.0, 190.0, 180.0, -180.0, 540.0, -350.0] {
+        wrap_row(d, 180.0, "180", wrap_180(d));
+    }
+    for d in [0.1, -0.1, -0.0, 1.0e-300, 360.0, -360.0, 359.9, 180.0_f64.next_up(), 1.0e17, -1.0e17, 1.0e300, INFINITE, NAN] {
+        wrap_row(d, 180.0, "180", wrap_180(d));
+    }
+    let pi = std::f64::consts::PI;
+    for d in [1.5 * pi, pi, -pi, 2.0 * pi, 0.1, -0.1, -0.0, 1.0e-300, 1.0e17] {
+        wrap_row(d, pi, "pi", wrap_pi(d));
+    }
+    println!("\nThe smallest prediction that shows it: C9's filter with a turn of 180, propagated 0, 0.1, -0.1.\n");
+    let mut exact = c9();
+    exact.set_kinds(&[Kind::Turn(180.0)]);
+    exact.predict(&[0.0, 0.1, -0.1]);
+    let mut published = c9();
+    published.set_hook(|dx| dx[0] = wrap_180(dx[0]));
+    published.predict(&[0.0, 0.1, -0.1]);
+    for (name, held) in [("exact", &exact), ("published", &published)] {
+        println!("{name:>10}  x{} P{}  {}", bits(&held.x()), bits(&held.p()), x_and_p(held));
+    }
+}
+
+fn wrap_row(d: f64, h: f64, name: &str, published: f64) {
+    let exact = wrap(d, h);
+    let same = if bits_of(exact) == bits_of(published) { "" } else { "  differs" };
+    println!("{d:>20?} {name:>4} {} {}  {exact:?} / {published:?}{same}", bits(&[exact]), bits(&[published]));
+}

@@ -1,0 +1,130 @@
+//! figures FOLDER: runs each NAME.script of the folder, compares with NAME.theirs where that stands beside it, and prints
+//! what was met and how many answers differ.
+
+use std::fs;
+use std::path::{Path, PathBuf};
+use std::process::ExitCode;
+
+use oracle::coverage::{count, count_with, holes, NUMBERS, STEPS};
+use oracle::script::{Reader, Table, BAD};
+
+const NAMES: [&str; 10] = ["accepted", "SIZE", "SHORT", "STAGE", "STALE", "NUMBER", "PARAM", "PIVOT", "INNOV", "RANGE"];
+
+/// How many differing answers are shown.
+const SHOWN: u64 = 5;
+
+#[derive(Default)]
+struct Figures {
+    table: Table,
+    calls: u64,
+    compared: u64,
+    numbers: u64,
+    differences: u64,
+}
+
+fn main() -> ExitCode {
+    let Some(folder) = std::env::args().nth(1) else {
+        eprintln!("usage: figures FOLDER");
+        return ExitCode::from(2);
+    };
+    let mut figures = Figures::default();
+    match figures.run(Path::new(&folder)) {
+        Ok(()) => figures.print(),
+        Err(why) => {
+            eprintln!("{why}");
+            return ExitCode::FAILURE;
+        }
+    }
+    if figures.differences == 0 {
+        ExitCode::SUCCESS
+    } else {
+        ExitCode::FAILURE
+    }
+}
+
+impl Figures {
+    fn run(&mut self, folder: &Path) -> Result<(), String> {
+        let mut scripts: Vec<PathBuf> = fs::read_dir(folder)
+            .map_err(|error| format!("{}: {error}", folder.display()))?
+            .filter_map(|entry| entry.ok().map(|entry| entry.path()))
+            .filter(|path| path.extension().is_some_and(|extension| extension == "script"))
+            .collect();
+        scripts.sort();
+        for path in scripts {
+            let script = fs::read(&path).map_err(|error| format!("{}: {error}", path.display()))?;
+            let theirs = fs::read(path.with_extension("theirs")).ok();
+            self.script(&path, &script, theirs.as_deref())?;
+        }
+        Ok(())
+    }
+
+    fn script(&mut self, path: &Path, script: &[u8], theirs: Option<&[u8]>) -> Result<(), String> {
+        let mut reader = Reader::default();
+        let mut theirs = theirs.map(|text| text.strip_suffix(b"\n").unwrap_or(text).split(|b| *b == b'\n'));
+        for (at, line) in script.strip_suffix(b"\n").unwrap_or(script).split(|b| *b == b'\n').enumerate() {
+            let place = || format!("{}, line {}", path.display(), at + 1);
+            let Some(answer) = reader.answer(line).map_err(|why| format!("{}: {why}", place()))? else {
+                continue;
+            };
+            self.calls += 1;
+            let Some(theirs) = theirs.as_mut() else {
+                continue;
+            };
+            self.compared += 1;
+            self.numbers += answer.split(' ').filter(|token| token.len() == 16).count() as u64;
+            let other = theirs.next().unwrap_or(b"(no answer)");
+            if other != answer.as_bytes() {
+                self.differ(&place(), &String::from_utf8_lossy(line), &answer, &String::from_utf8_lossy(other));
+            }
+        }
+        if let Some(more) = theirs.map(Iterator::count).filter(|more| *more > 0) {
+            self.differ(&path.display().to_string(), "", "(no more calls)", &format!("{more} more answers"));
+        }
+        for (key, count) in reader.table {
+            *self.table.entry(key).or_default() += count;
+        }
+        Ok(())
+    }
+
+    fn differ(&mut self, place: &str, call: &str, ours: &str, other: &str) {
+        self.differences += 1;
+        if self.differences <= SHOWN {
+            let short = |text: &str| text.chars().take(400).collect::<String>();
+            println!("{place}: {}\n   oracle: {}\n   theirs: {}", short(call), short(ours), short(other));
+        }
+    }
+
+    fn print(&self) {
+        let total = |number: u8| NUMBERS.iter().map(|(call, _)| count(&self.table, call, number)).sum::<u64>();
+        println!("calls             {:>10}", self.calls);
+        for (number, name) in NAMES.iter().enumerate() {
+            println!("  {number} {name:<12}  {:>10}", total(number as u8));
+        }
+        println!("  no call (bad)   {:>10}", count(&self.table, "bad", BAD));
+        println!("answers compared  {:>10}", self.compared);
+        println!("numbers compared  {:>10}", self.numbers);
+        println!("differences       {:>10}", self.differences);
+
+        println!("\n{:<10}{}", "call", (0..10).map(|number| format!("{number:>7}")).collect::<String>());
+        for (call, numbers) in NUMBERS {
+            let cell = |number: u8| if numbers.contains(&number) { count(&self.table, call, number).to_string() } else { ".".into() };
+            println!("{call:<10}{}", (0..10).map(|number| format!("{:>7}", cell(number))).collect::<String>());
+        }
+        println!("\nwhere the steps stopped");
+        for (call, steps) in STEPS {
+            for (number, step) in steps {
+                println!("{call:<10}{number}  {step:<18}{:>7}", count_with(&self.table, call, *number, step));
+            }
+        }
+        println!("\naccepted closes   {}", (1..=8).map(|n| format!("{:>7}", format!("n={n}"))).collect::<String>());
+        let line = |name: &str, cell: &dyn Fn(usize) -> u64| {
+            println!("{name:<18}{}", (1..=8).map(|n| format!("{:>7}", cell(n))).collect::<String>())
+        };
+        line("prediction", &|n| count_with(&self.table, "closep", 0, &format!("n={n}")));
+        for m in 1..=4 {
+            line(&format!("correction, m={m}"), &|n| count_with(&self.table, "closec", 0, &format!("n={n} m={m}")));
+        }
+        let holes = holes(&self.table);
+        println!("\nnot met           {}", if holes.is_empty() { "nothing".to_string() } else { holes.join("; ") });
+    }
+}

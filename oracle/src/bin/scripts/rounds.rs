@@ -1,0 +1,339 @@
+//! Episodes as a user would have them: a new filter, then predictions and corrections with other calls between.
+
+use oracle::filter::list_length;
+use oracle::kinds::Kind;
+use oracle::steps::Weights;
+
+use crate::maker::{kind, params, Fault, Made, Maker};
+
+impl Maker {
+    pub fn episode(&mut self, n: usize) -> Made<()> {
+        let unit = self.unit();
+        self.fresh(n, unit)?;
+        for _ in 0..self.random.between(4, 14) {
+            match self.random.below(20) {
+                0..=6 => self.prediction(unit)?,
+                7..=12 => {
+                    // Several in a row: each but the first is drawn afresh.
+                    for _ in 0..self.random.between(1, 3) {
+                        self.correction(unit)?;
+                    }
+                }
+                13..=14 => self.setter(unit)?,
+                15 => self.reading()?,
+                16 => self.value()?,
+                17 => self.stray()?,
+                18 => self.refused_setter()?,
+                _ => {
+                    if self.random.chance(30) {
+                        self.bad()?
+                    } else {
+                        self.say("dump")?;
+                    }
+                }
+            }
+        }
+        Ok(())
+    }
+
+    /// The size of the states: a power of two, mostly about 1, at times where squares are subnormal or nearly overflow.
+    pub fn unit(&mut self) -> f64 {
+        let exponent = match self.random.below(10) {
+            0 => self.random.between(-530, -500),
+            1 => self.random.between(470, 500),
+            2 => self.random.between(-200, 200),
+            _ => self.random.between(-3, 3),
+        };
+        power(exponent)
+    }
+
+    /// A new filter with some kinds set.
+    pub fn fresh(&mut self, n: usize, unit: f64) -> Made<()> {
+        let (x, p, q) = (self.random.vector(n, unit), self.random.covariance(n, unit), self.random.noise(n, unit));
+        let par = self.random.params(n);
+        if self.new_line(n, &x, &p, &q, par)? == 0 && self.random.chance(50) {
+            for i in 0..n {
+                if self.random.chance(40) {
+                    let h = self.random.half_turn(unit);
+                    self.say(format!("setkind {i} {}", kind(Kind::Turn(h))))?;
+                }
+            }
+        }
+        Ok(())
+    }
+
+    /// Moves points (n numbers each) as a model might; turns are often brought back into range.
+    fn moved(&mut self, points: &[f64], unit: f64) -> Vec<f64> {
+        let n = self.n();
+        let mut out = points.to_vec();
+        let (a, b, shift) = (self.random.within(0.5, 1.2), self.random.within(-0.5, 0.5), self.random.sized(unit * 0.25));
+        match self.random.below(13) {
+            0..=1 => {}
+            2..=5 => {
+                for (at, number) in out.iter_mut().enumerate() {
+                    *number = a * points[at] + b * points[neighbour(at, n)] + shift;
+                }
+            }
+            6..=8 => {
+                for (at, number) in out.iter_mut().enumerate() {
+                    *number = points[at] + b * bend(points[neighbour(at, n)], unit);
+                }
+            }
+            9 => {
+                for number in &mut out {
+                    *number += self.random.within(-0.01, 0.01) * unit;
+                }
+            }
+            // Multiples of a quarter: many differences are zeros of either sign.
+            10 => {
+                for number in &mut out {
+                    *number = (*number / unit * 4.0).round() / 4.0 * unit;
+                }
+            }
+            11 => {
+                let first = points[..n].to_vec();
+                for (at, number) in out.iter_mut().enumerate() {
+                    *number = first[at % n];
+                }
+            }
+            _ => self.zeros(&mut out, n),
+        }
+        if self.random.chance(10) {
+            let at = self.random.below(out.len());
+            out[at] = self.random.least();
+        }
+        if self.random.chance(70) {
+            for (number, kind) in out.iter_mut().zip(self.reader.filter.kinds.iter().cycle()) {
+                *number = kind.fixed(*number);
+            }
+        }
+        // A NaN that was worked out has other bits on other machines.
+        for number in &mut out {
+            *number = if number.is_nan() { f64::INFINITY } else { *number };
+        }
+        out
+    }
+
+    /// Zeros of both signs and the smallest numbers: what is left of a sum is its sign.
+    fn zeros(&mut self, out: &mut [f64], d: usize) {
+        for i in 0..d {
+            let (centre, rest) = (self.random.pick(&[0.0, -0.0]), self.random.least());
+            let alike = self.random.chance(60);
+            for at in (i..out.len()).step_by(d) {
+                out[at] = match (at < d, alike) {
+                    (true, _) => centre,
+                    (_, true) => rest,
+                    _ => self.random.least(),
+                };
+            }
+        }
+    }
+
+    /// m numbers of each point, as an instrument might show them.
+    fn seen(&mut self, points: &[f64], m: usize, measured: &[Kind], unit: f64, gauge: f64) -> Vec<f64> {
+        let n = self.n();
+        let forms: Vec<(usize, usize, usize, f64)> =
+            (0..m).map(|_| (self.random.below(5), self.random.below(n), self.random.below(n), self.random.within(-2.0, 2.0))).collect();
+        let mut out = Vec::new();
+        for point in points.chunks(n) {
+            for (j, (form, i, k, a)) in forms.iter().enumerate() {
+                let (first, second) = (point[*i] * gauge, point[*k] * gauge);
+                let number = match form {
+                    0..=1 => first,
+                    2 => first - second,
+                    3 => a * first + bend(second, unit * gauge),
+                    _ => (first / unit * first + second / unit * second).sqrt() * unit.sqrt(),
+                };
+                let number = if number.is_finite() { number } else { 0.0 };
+                out.push(measured[j].fixed(number));
+            }
+        }
+        out
+    }
+
+    pub fn prediction(&mut self, unit: f64) -> Made<()> {
+        self.refused_open("openp")?;
+        if self.open_prediction()? != 0 {
+            return self.mended(unit);
+        }
+        self.meanwhile(unit)?;
+        let drawn = self.reader.filter.drawn_points.clone();
+        let propagated = self.moved(&drawn, unit);
+        if self.random.chance(15) {
+            self.faulty_close_prediction(&propagated)?;
+        }
+        if self.random.chance(7) {
+            return self.abandoned();
+        }
+        if self.close_prediction(&propagated)? != 0 {
+            self.after_refusal()?;
+            // Refused for their size, as a rule: the points as drawn may pass.
+            if self.random.chance(50) && self.close_prediction(&drawn)? == 0 {
+                return Ok(());
+            }
+            return self.abandoned();
+        }
+        if self.random.chance(20) {
+            self.reading()?;
+        }
+        Ok(())
+    }
+
+    pub fn correction(&mut self, unit: f64) -> Made<()> {
+        self.refused_open("openc")?;
+        if self.open_correction()? != 0 {
+            return self.mended(unit);
+        }
+        self.meanwhile(unit)?;
+        let m = 1 + self.random.below(4);
+        let gauge = match self.random.below(10) {
+            // So small that the inverse of S would overflow: measured in larger numbers.
+            0..=8 if unit < 1.0e-140 => power(self.random.between(20, 60)),
+            0..=7 => 1.0,
+            _ => power(self.random.between(-20, 20)),
+        };
+        let size = unit * gauge;
+        let measured: Vec<Kind> =
+            (0..m).map(|_| if self.random.chance(25) { Kind::Turn(self.random.half_turn(size)) } else { Kind::Plain }).collect();
+        let drawn = self.reader.filter.drawn_points.clone();
+        let mut observed = self.seen(&drawn, m, &measured, unit, gauge);
+        if self.random.chance(5) {
+            self.zeros(&mut observed, m);
+        }
+        // A centre that weighs far below zero wants more noise for S to have its pivots.
+        let heavy = self.reader.filter.drawn_weights[0].abs().clamp(1.0, 1.0e6).sqrt();
+        let r = match self.random.below(8) {
+            0 => self.random.noise(m, size),
+            _ => self.random.covariance(m, size * heavy),
+        };
+        let z: Vec<f64> = (0..m)
+            .map(|j| if self.random.chance(90) { observed[j] + self.random.within(-1.0, 1.0) * size } else { self.random.sized(size) })
+            .collect();
+        if self.random.chance(15) {
+            self.faulty_close_correction(&z, &r, &measured, &observed)?;
+        }
+        if self.random.chance(5) {
+            return self.abandoned();
+        }
+        if self.close_correction(&z, &r, &measured, &observed)? != 0 {
+            self.after_refusal()?;
+            let more: Vec<f64> = self.random.covariance(m, size * heavy * 4.0);
+            if self.close_correction(&z, &more, &measured, &observed)? != 0 {
+                return self.abandoned();
+            }
+        }
+        if self.random.chance(15) {
+            self.reading()?;
+        }
+        Ok(())
+    }
+
+    /// A draw was refused: put a P and an x that have a draw, and parameters of common size.
+    fn mended(&mut self, unit: f64) -> Made<()> {
+        self.after_refusal()?;
+        let n = self.n();
+        if self.random.chance(20) {
+            return self.fresh(n, unit);
+        }
+        let p = self.random.covariance(n, unit);
+        let line = format!("setp {}", self.list(&p, Fault::None));
+        self.say(line)?;
+        if Weights::of(n, self.reader.filter.par).total > 1.0e9 {
+            let par = self.random.params(n);
+            self.say(format!("setpar{}", params(par)))?;
+        }
+        Ok(())
+    }
+
+    fn abandoned(&mut self) -> Made<()> {
+        self.say("abandon")?;
+        self.after_refusal()
+    }
+
+    /// Now and then the whole filter is looked at after a call that should have changed little.
+    pub fn after_refusal(&mut self) -> Made<()> {
+        if self.random.chance(25) {
+            self.say("dump")?;
+        }
+        Ok(())
+    }
+
+    /// Calls while another is open: readings pass, the rest waits.
+    fn meanwhile(&mut self, unit: f64) -> Made<()> {
+        if self.random.chance(80) {
+            return Ok(());
+        }
+        for _ in 0..self.random.between(1, 3) {
+            match self.random.below(5) {
+                0..=1 => self.reading()?,
+                2 => self.setter(unit)?,
+                3 => {
+                    let line = self.random.pick(&["openp 136", "openc 136", "openp 0", "dump"]);
+                    self.say(line)?;
+                }
+                _ => self.wrong_close()?,
+            }
+        }
+        Ok(())
+    }
+
+    /// Sets something to what passes, as far as nothing is open.
+    pub fn setter(&mut self, unit: f64) -> Made<()> {
+        let n = self.n();
+        let line = match self.random.below(5) {
+            0 => {
+                let x = self.random.vector(n, unit);
+                format!("setx {}", self.list(&x, Fault::None))
+            }
+            1 => {
+                let p = self.random.covariance(n, unit);
+                format!("setp {}", self.list(&p, Fault::None))
+            }
+            2 => {
+                let q = self.random.noise(n, unit);
+                format!("setq {}", self.list(&q, Fault::None))
+            }
+            3 => format!("setpar{}", params(self.random.params(n))),
+            _ => {
+                let new = if self.random.chance(40) { Kind::Plain } else { Kind::Turn(self.random.half_turn(unit)) };
+                format!("setkind {} {}", self.random.below(n.max(1)), kind(new))
+            }
+        };
+        self.say(line)?;
+        Ok(())
+    }
+
+    /// A reading with a buffer that fits, is short, or is longer.
+    pub fn reading(&mut self) -> Made<()> {
+        let n = self.n();
+        let (name, needed) = match self.random.below(7) {
+            0 => ("readx", n),
+            1 => ("readp", n * n),
+            2 => ("readq", n * n),
+            3..=4 => ("readpts", list_length(n)),
+            5 => return self.say("readpar").map(|_| ()),
+            _ => return self.say("readstale").map(|_| ()),
+        };
+        let length = if self.random.chance(25) { self.short_length(needed) } else { self.length(needed) };
+        self.say(format!("{name} {length}"))?;
+        Ok(())
+    }
+}
+
+/// A power of two, also a subnormal one.
+pub fn power(exponent: i64) -> f64 {
+    let (half, rest) = (exponent / 2, exponent - exponent / 2);
+    let small = |e: i64| f64::from_bits(((1023 + e) as u64) << 52);
+    small(half) * small(rest)
+}
+
+/// The next number of the same point.
+fn neighbour(at: usize, n: usize) -> usize {
+    at / n * n + (at + 1) % n
+}
+
+/// A curve of about the size of `unit`.
+fn bend(number: f64, unit: f64) -> f64 {
+    let t = number / unit;
+    t / (1.0 + t * t) * unit
+}

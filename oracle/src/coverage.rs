@@ -1,0 +1,84 @@
+//! What scripts should meet: every number that a call can give, every step that can stop, every size.
+
+use crate::script::Table;
+
+/// The numbers that each call can give in a script. (Opening never gives 6; on the empty filter abandon and closes give 3.)
+pub const NUMBERS: [(&str, &[u8]); 21] = [
+    ("new", &[0, 1, 2, 5, 6]),
+    ("setx", &[0, 1, 2, 3, 5]),
+    ("setp", &[0, 1, 2, 3, 5]),
+    ("setq", &[0, 1, 2, 3, 5]),
+    ("setpar", &[0, 1, 3, 5, 6]),
+    ("setkind", &[0, 1, 3, 5, 6]),
+    ("abandon", &[0, 3]),
+    ("openp", &[0, 1, 2, 3, 7, 9]),
+    ("openc", &[0, 1, 2, 3, 7, 9]),
+    ("closep", &[0, 2, 3, 5, 9]),
+    ("closec", &[0, 1, 2, 3, 5, 6, 8, 9]),
+    ("readx", &[0, 1, 2]),
+    ("readp", &[0, 1, 2]),
+    ("readq", &[0, 1, 2]),
+    ("readpts", &[0, 1, 2, 4]),
+    ("readpar", &[0, 1]),
+    ("readstale", &[0, 1]),
+    ("point", &[0, 1, 2]),
+    ("wrap", &[0, 5, 6]),
+    ("root", &[0, 5]),
+    ("dump", &[0]),
+];
+
+/// The steps in which a call can stop, in running order.
+pub const STEPS: [(&str, &[(u8, &str)]); 4] = [
+    ("openp", &[(7, "P's pivot"), (9, "P's factor entry"), (9, "points")]),
+    ("openc", &[(7, "P's pivot"), (9, "P's factor entry"), (9, "points")]),
+    ("closep", &[(9, "mean"), (9, "P")]),
+    (
+        "closec",
+        &[
+            (9, "z mean"),
+            (9, "S"),
+            (9, "x mean"),
+            (9, "cross covariance"),
+            (8, "S's pivot"),
+            (9, "S's factor entry"),
+            (9, "inverse"),
+            (9, "gain"),
+            (9, "y"),
+            (9, "x"),
+            (9, "P"),
+        ],
+    ),
+];
+
+/// How often a call gave a number, whatever the step.
+pub fn count(table: &Table, call: &str, number: u8) -> u64 {
+    table.iter().filter(|((c, n, _), _)| *c == call && *n == number).map(|(_, count)| count).sum()
+}
+
+/// How often a call gave a number in this step, or at these sizes.
+pub fn count_with(table: &Table, call: &str, number: u8, more: &str) -> u64 {
+    table.iter().filter(|((c, n, m), _)| *c == call && *n == number && m == more).map(|(_, count)| count).sum()
+}
+
+/// What was not met.
+pub fn holes(table: &Table) -> Vec<String> {
+    let mut holes = Vec::new();
+    for (call, numbers) in NUMBERS {
+        holes.extend(numbers.iter().filter(|number| count(table, call, **number) == 0).map(|number| format!("{call}: {number}")));
+    }
+    for (call, steps) in STEPS {
+        let unmet = steps.iter().filter(|(number, step)| count_with(table, call, *number, step) == 0);
+        holes.extend(unmet.map(|(number, step)| format!("{call}: {number} in {step}")));
+    }
+    for n in 1..=8 {
+        if count_with(table, "closep", 0, &format!("n={n}")) == 0 {
+            holes.push(format!("closep accepted with n={n}"));
+        }
+        for m in 1..=4 {
+            if count_with(table, "closec", 0, &format!("n={n} m={m}")) == 0 {
+                holes.push(format!("closec accepted with n={n} m={m}"));
+            }
+        }
+    }
+    holes
+}

@@ -1,0 +1,376 @@
+//! Document 01's filter: its calls and refusals around the published Rust.
+//! Each accepted close is worked out twice, by the published Rust and by `steps`; the two must agree in every bit.
+
+use crate::kinds::{is_half_turn, Kind};
+use crate::published::{self, Measurement, Published};
+use crate::steps::{self, all_finite, Correction, Params, Prediction, Stop, Weights};
+
+#[derive(Clone, Copy, Debug, PartialEq)]
+pub enum Open {
+    Nothing,
+    Prediction,
+    Correction,
+}
+
+/// Why a call changed nothing: a refusal, or (never, we hope) that the published Rust and `steps` part.
+#[derive(Debug)]
+pub enum Trouble {
+    Refused(Stop),
+    Parted(String),
+}
+
+impl From<Stop> for Trouble {
+    fn from(stop: Stop) -> Trouble {
+        Trouble::Refused(stop)
+    }
+}
+
+/// Refusal `number` where this holds; the callers keep the order 3, 1, 2, 4, 5, 6.
+fn refuse_if(holds: bool, number: u8) -> Result<(), Stop> {
+    if holds {
+        Err(Stop { number, step: "" })
+    } else {
+        Ok(())
+    }
+}
+
+/// Bit for bit. What is compared is finite, so that no NaN patterns come into it.
+fn alike(what: &str, ours: &[f64], rust: &[f64]) -> Result<(), Trouble> {
+    if ours.len() == rust.len() && ours.iter().zip(rust).all(|(a, b)| a.to_bits() == b.to_bits()) {
+        return Ok(());
+    }
+    let bits = |numbers: &[f64]| numbers.iter().map(|x| format!(" {:016x}", x.to_bits())).collect::<String>();
+    Err(Trouble::Parted(format!("{what}: document 01{}, published Rust{}", bits(ours), bits(rust))))
+}
+
+/// How many numbers a point list holds.
+pub fn list_length(n: usize) -> usize {
+    n * (2 * n + 1)
+}
+
+/// A size of states as a usize, if it is one; nothing is multiplied before.
+fn states(n: u64) -> Result<usize, Stop> {
+    refuse_if(!(1..=8).contains(&n), 1)?;
+    Ok(n as usize)
+}
+
+/// The used places of document 01's filter. w0c and wi stand for all weights.
+pub struct Filter {
+    pub n: usize,
+    pub x: Vec<f64>,
+    pub p: Vec<f64>,
+    pub q: Vec<f64>,
+    pub par: Params,
+    pub kinds: Vec<Kind>,
+    pub weights: [f64; 2],
+    pub points: Vec<f64>,
+    pub stale: bool,
+    pub open: Open,
+    pub drawn_weights: [f64; 2],
+    pub drawn_points: Vec<f64>,
+    /// The published filter, which runs at each accepted close; none in the empty filter.
+    rust: Option<Box<dyn Published>>,
+}
+
+impl Filter {
+    pub fn empty() -> Filter {
+        Filter {
+            n: 0,
+            x: vec![],
+            p: vec![],
+            q: vec![],
+            par: Params::default(),
+            kinds: vec![],
+            weights: [0.0; 2],
+            points: vec![],
+            stale: true,
+            open: Open::Nothing,
+            drawn_weights: [0.0; 2],
+            drawn_points: vec![],
+            rust: None,
+        }
+    }
+
+    pub fn new(n: u64, x: &[f64], p: &[f64], q: &[f64], par: Params) -> Result<Filter, Trouble> {
+        let n = states(n)?;
+        refuse_if(x.len() < n || p.len() < n * n || q.len() < n * n, 2)?;
+        let (x, p, q) = (&x[..n], &p[..n * n], &q[..n * n]);
+        refuse_if(!(all_finite(x) && all_finite(p) && all_finite(q) && finite_params(par)), 5)?;
+        refuse_if(!Weights::of(n, par).pass(), 6)?;
+        Ok(Filter {
+            n,
+            x: x.to_vec(),
+            p: p.to_vec(),
+            q: q.to_vec(),
+            par,
+            kinds: vec![Kind::Plain; n],
+            points: vec![0.0; list_length(n)],
+            drawn_points: vec![0.0; list_length(n)],
+            rust: Some(published::new(n, x, p, q, par)),
+            ..Filter::empty()
+        })
+    }
+
+    fn rust(&self) -> &dyn Published {
+        self.rust.as_deref().expect("a filter with states has its published filter")
+    }
+
+    fn rust_mut(&mut self) -> &mut dyn Published {
+        self.rust.as_deref_mut().expect("a filter with states has its published filter")
+    }
+
+    fn sized(&self) -> Result<usize, Stop> {
+        states(self.n as u64)
+    }
+
+    /// The checks that all setters begin with.
+    fn settable(&self) -> Result<usize, Stop> {
+        refuse_if(self.open != Open::Nothing, 3)?;
+        self.sized()
+    }
+
+    pub fn set_x(&mut self, x: &[f64]) -> Result<(), Trouble> {
+        let n = self.settable()?;
+        self.x = front(x, n)?;
+        self.rust_mut().set_x(x);
+        Ok(())
+    }
+
+    pub fn set_p(&mut self, p: &[f64]) -> Result<(), Trouble> {
+        let n = self.settable()?;
+        self.p = front(p, n * n)?;
+        self.rust_mut().set_p(p);
+        Ok(())
+    }
+
+    pub fn set_q(&mut self, q: &[f64]) -> Result<(), Trouble> {
+        let n = self.settable()?;
+        self.q = front(q, n * n)?;
+        self.rust_mut().set_q(q);
+        Ok(())
+    }
+
+    pub fn set_params(&mut self, par: Params) -> Result<(), Trouble> {
+        let n = self.settable()?;
+        refuse_if(!finite_params(par), 5)?;
+        refuse_if(!Weights::of(n, par).pass(), 6)?;
+        self.par = par;
+        self.rust_mut().set_params(par);
+        Ok(())
+    }
+
+    pub fn set_kind(&mut self, i: u64, kind: Kind) -> Result<(), Trouble> {
+        let n = self.settable()?;
+        refuse_if(i >= n as u64, 1)?;
+        pass_kinds(&[kind])?;
+        self.kinds[i as usize] = kind;
+        let kinds = self.kinds.clone();
+        self.rust_mut().set_kinds(&kinds);
+        Ok(())
+    }
+
+    /// A published filter like this one, stale and with nothing drawn: its draw is what an open shows.
+    fn twin(&self) -> Box<dyn Published> {
+        published::new(self.n, &self.x, &self.p, &self.q, self.par)
+    }
+
+    /// The checks that both opens begin with.
+    fn openable(&self, buffer: &[f64]) -> Result<usize, Stop> {
+        let n = self.settable()?;
+        refuse_if(buffer.len() < list_length(n), 2)?;
+        Ok(n)
+    }
+
+    /// Keeps what was drawn and writes it out.
+    fn opened(&mut self, open: Open, points: Vec<f64>, weights: [f64; 2], buffer: &mut [f64]) {
+        buffer[..points.len()].copy_from_slice(&points);
+        self.open = open;
+        self.drawn_points = points;
+        self.drawn_weights = weights;
+    }
+
+    pub fn open_prediction(&mut self, buffer: &mut [f64]) -> Result<(), Trouble> {
+        let n = self.openable(buffer)?;
+        let weights = Weights::of(n, self.par);
+        let points = steps::draw(n, &self.x, &self.p, weights.total)?;
+        let mut twin = self.twin();
+        let drawn = twin.predict(&points);
+        alike("points drawn for a prediction", &points, &drawn)?;
+        alike("weights of a prediction", &all_weights(n, [weights.w0c, weights.wi]), &twin.weights())?;
+        self.opened(Open::Prediction, drawn, [weights.w0c, weights.wi], buffer);
+        Ok(())
+    }
+
+    pub fn open_correction(&mut self, buffer: &mut [f64]) -> Result<(), Trouble> {
+        let n = self.openable(buffer)?;
+        if !self.stale {
+            self.opened(Open::Correction, self.points.clone(), self.weights, buffer);
+            return Ok(());
+        }
+        let weights = Weights::of(n, self.par);
+        let points = steps::draw(n, &self.x, &self.p, weights.total)?;
+        let drawn = self.twin().refreshed();
+        alike("points drawn for a correction", &points, &drawn.points)?;
+        alike("weights of a correction", &all_weights(n, [weights.w0c, weights.wi]), &drawn.weights)?;
+        self.opened(Open::Correction, drawn.points, [weights.w0c, weights.wi], buffer);
+        Ok(())
+    }
+
+    /// Takes x, P, points and weights from the published filter, and closes.
+    fn closed(&mut self, stale: bool) -> Result<(), Trouble> {
+        alike("weights installed", &all_weights(self.n, self.drawn_weights), &self.rust().weights())?;
+        (self.x, self.p, self.points) = (self.rust().x(), self.rust().p(), self.rust().points());
+        self.weights = self.drawn_weights;
+        self.stale = stale;
+        self.emptied();
+        Ok(())
+    }
+
+    /// Nothing is open and the scratch is +0.
+    fn emptied(&mut self) {
+        self.open = Open::Nothing;
+        self.drawn_points = vec![0.0; list_length(self.n)];
+        self.drawn_weights = [0.0; 2];
+    }
+
+    pub fn close_prediction(&mut self, propagated: &[f64]) -> Result<(), Trouble> {
+        refuse_if(self.open != Open::Prediction, 3)?;
+        let n = self.sized()?;
+        let propagated = front(propagated, list_length(n))?;
+        let [w0c, wi] = self.drawn_weights;
+        let w0m = Weights::of(n, self.par).w0m;
+        let (x, p) = steps::predict(&Prediction { n, q: &self.q, kinds: &self.kinds, w0m, w0c, wi, propagated: &propagated })?;
+        let drawn = self.rust_mut().predict(&propagated);
+        alike("points drawn at a close", &self.drawn_points, &drawn)?;
+        alike("x after a prediction", &x, &self.rust().x())?;
+        alike("P after a prediction", &p, &self.rust().p())?;
+        alike("points installed", &propagated, &self.rust().points())?;
+        self.closed(false)
+    }
+
+    pub fn close_correction(&mut self, m: u64, z: &[f64], r: &[f64], kinds: [Kind; 4], observed: &[f64]) -> Result<(), Trouble> {
+        refuse_if(self.open != Open::Correction, 3)?;
+        let n = self.sized()?;
+        refuse_if(!(1..=4).contains(&m), 1)?;
+        let m = m as usize;
+        refuse_if(z.len() < m || r.len() < m * m || observed.len() < m * (2 * n + 1), 2)?;
+        let (z, r, kinds, observed) = (&z[..m], &r[..m * m], &kinds[..m], &observed[..m * (2 * n + 1)]);
+        refuse_if(!(all_finite(z) && all_finite(r) && all_finite(observed)), 5)?;
+        pass_kinds(kinds)?;
+        let ours = steps::correct(&Correction {
+            n,
+            m,
+            x: &self.x,
+            p: &self.p,
+            kinds: &self.kinds,
+            w0m: Weights::of(n, self.par).w0m,
+            w0c: self.drawn_weights[0],
+            wi: self.drawn_weights[1],
+            points: &self.drawn_points,
+            z,
+            r,
+            measured: kinds,
+            observed,
+        })?;
+        let left = self.rust_mut().correct(&Measurement { m, z, r, kinds, observed });
+        alike("points shown to the observation", &self.drawn_points, &left.shown)?;
+        alike("cross covariance", &ours.c, &left.c)?;
+        alike("factor of S", &ours.l, &left.l)?;
+        alike("inverse of S", &ours.v, &left.v)?;
+        alike("gain", &ours.k, &left.k)?;
+        alike("y", &ours.y, &left.y)?;
+        alike("T", &ours.t, &left.t)?;
+        alike("x after a correction", &ours.x, &self.rust().x())?;
+        alike("P after a correction", &ours.p, &self.rust().p())?;
+        alike("points installed", &self.drawn_points, &self.rust().points())?;
+        self.closed(true)
+    }
+
+    pub fn abandon(&mut self) -> Result<(), Trouble> {
+        refuse_if(self.open == Open::Nothing, 3)?;
+        self.sized()?;
+        self.emptied();
+        Ok(())
+    }
+
+    pub fn read_x(&self, buffer: &mut [f64]) -> Result<(), Trouble> {
+        self.sized()?;
+        written(&self.x, buffer)
+    }
+
+    pub fn read_p(&self, buffer: &mut [f64]) -> Result<(), Trouble> {
+        self.sized()?;
+        written(&self.p, buffer)
+    }
+
+    pub fn read_q(&self, buffer: &mut [f64]) -> Result<(), Trouble> {
+        self.sized()?;
+        written(&self.q, buffer)
+    }
+
+    pub fn read_points(&self, buffer: &mut [f64]) -> Result<(), Trouble> {
+        let n = self.sized()?;
+        refuse_if(buffer.len() < list_length(n), 2)?;
+        refuse_if(self.stale, 4)?;
+        written(&self.points, buffer)
+    }
+
+    pub fn read_params(&self) -> Result<Params, Trouble> {
+        self.sized()?;
+        Ok(self.par)
+    }
+
+    pub fn read_stale(&self) -> Result<bool, Trouble> {
+        self.sized()?;
+        Ok(self.stale)
+    }
+}
+
+/// The front of a lent slice: 2 where it is short, 5 where a number in it isn't finite.
+fn front(numbers: &[f64], wanted: usize) -> Result<Vec<f64>, Stop> {
+    refuse_if(numbers.len() < wanted, 2)?;
+    refuse_if(!all_finite(&numbers[..wanted]), 5)?;
+    Ok(numbers[..wanted].to_vec())
+}
+
+fn finite_params(par: Params) -> bool {
+    all_finite(&[par.alpha, par.beta, par.kappa])
+}
+
+/// Every 5 before any 6.
+fn pass_kinds(kinds: &[Kind]) -> Result<(), Stop> {
+    refuse_if(kinds.iter().filter_map(|kind| kind.half()).any(|h| !h.is_finite()), 5)?;
+    refuse_if(kinds.iter().filter_map(|kind| kind.half()).any(|h| !is_half_turn(h)), 6)
+}
+
+fn written(numbers: &[f64], buffer: &mut [f64]) -> Result<(), Trouble> {
+    refuse_if(buffer.len() < numbers.len(), 2)?;
+    buffer[..numbers.len()].copy_from_slice(numbers);
+    Ok(())
+}
+
+/// The weights as the published Rust keeps them, one a point.
+fn all_weights(n: usize, [w0c, wi]: [f64; 2]) -> Vec<f64> {
+    let mut all = vec![wi; 2 * n + 1];
+    all[0] = w0c;
+    all
+}
+
+/// Point k of a lent list: where it starts and how long it is.
+pub fn point(n: u64, k: u64, list: &[f64]) -> Result<(usize, usize), Trouble> {
+    let n = states(n)?;
+    refuse_if(k > 2 * n as u64, 1)?;
+    refuse_if(list.len() < list_length(n), 2)?;
+    Ok((k as usize * n, n))
+}
+
+pub fn wrap(d: f64, h: f64) -> Result<f64, Trouble> {
+    refuse_if(!d.is_finite(), 5)?;
+    pass_kinds(&[Kind::Turn(h)])?;
+    Ok(Kind::Turn(h).fixed(d))
+}
+
+pub fn root(a: f64) -> Result<f64, Trouble> {
+    refuse_if(!a.is_finite() || a < 0.0, 5)?;
+    Ok(a.sqrt())
+}

@@ -1,0 +1,227 @@
+//! Document 01's steps worked out a second time, plainly and with its checks for 7, 8 and 9 in running order.
+//! Shares no code with the leaves that lie under the published Rust, so that the two can be held against each other.
+
+use crate::kinds::Kind;
+
+#[derive(Clone, Copy, Debug, Default, PartialEq)]
+pub struct Params {
+    pub alpha: f64,
+    pub beta: f64,
+    pub kappa: f64,
+}
+
+/// A step that refuses: the number, and the step's name for the table of what was met.
+#[derive(Clone, Copy, Debug, PartialEq)]
+pub struct Stop {
+    pub number: u8,
+    pub step: &'static str,
+}
+
+pub struct Weights {
+    /// N = n + lambda.
+    pub total: f64,
+    pub w0m: f64,
+    pub w0c: f64,
+    pub wi: f64,
+}
+
+impl Weights {
+    pub fn of(n: usize, par: Params) -> Weights {
+        let n = n as f64;
+        let lambda = par.alpha * par.alpha * (n + par.kappa) - n;
+        let total = n + lambda;
+        Weights { total, w0m: lambda / total, w0c: lambda / total + (1.0 - par.alpha * par.alpha + par.beta), wi: 1.0 / (2.0 * total) }
+    }
+
+    /// What refusal 6 asks of parameters.
+    pub fn pass(&self) -> bool {
+        self.total.is_finite() && self.total > 0.0 && self.w0m.is_finite() && self.w0c.is_finite() && self.wi.is_finite()
+    }
+}
+
+pub fn all_finite(numbers: &[f64]) -> bool {
+    numbers.iter().all(|number| number.is_finite())
+}
+
+/// The numbers as they are, or 9 in this step's name.
+fn checked(numbers: Vec<f64>, step: &'static str) -> Result<Vec<f64>, Stop> {
+    if all_finite(&numbers) {
+        Ok(numbers)
+    } else {
+        Err(Stop { number: 9, step })
+    }
+}
+
+/// d×d factor of a, reading its lower triangle, column after column; +0 above the diagonal.
+fn factor(a: &[f64], d: usize, pivot: Stop, entry: &'static str) -> Result<Vec<f64>, Stop> {
+    let mut l = vec![0.0; d * d];
+    for j in 0..d {
+        for i in j..d {
+            let mut rest = a[i * d + j];
+            for k in 0..j {
+                rest -= l[i * d + k] * l[j * d + k];
+            }
+            if i == j {
+                if !rest.is_finite() || rest <= 0.0 {
+                    return Err(pivot);
+                }
+                l[j * d + j] = rest.sqrt();
+            } else {
+                l[i * d + j] = rest / l[j * d + j];
+                if !l[i * d + j].is_finite() {
+                    return Err(Stop { number: 9, step: entry });
+                }
+            }
+        }
+    }
+    Ok(l)
+}
+
+/// The inverse from the factor, column by column.
+fn inverse(l: &[f64], d: usize) -> Vec<f64> {
+    let mut inverse = vec![0.0; d * d];
+    for c in 0..d {
+        let mut u = vec![0.0; d];
+        for i in 0..d {
+            let start = if i == c { 1.0 } else { 0.0 };
+            u[i] = (0..i).fold(start, |rest, k| rest - l[i * d + k] * u[k]) / l[i * d + i];
+        }
+        let mut v = vec![0.0; d];
+        for i in (0..d).rev() {
+            v[i] = (i + 1..d).fold(u[i], |rest, k| rest - l[k * d + i] * v[k]) / l[i * d + i];
+        }
+        for i in 0..d {
+            inverse[i * d + c] = v[i];
+        }
+    }
+    inverse
+}
+
+/// a (rows×d) times b (columns×d) transposed.
+fn times_transposed(a: &[f64], b: &[f64], rows: usize, columns: usize, d: usize) -> Vec<f64> {
+    let mut out = Vec::with_capacity(rows * columns);
+    for i in 0..rows {
+        for j in 0..columns {
+            out.push((0..d).fold(0.0, |sum, k| sum + a[i * d + k] * b[j * d + k]));
+        }
+    }
+    out
+}
+
+/// The 2n+1 points, point after point.
+pub fn draw(n: usize, x: &[f64], p: &[f64], total: f64) -> Result<Vec<f64>, Stop> {
+    let l = factor(p, n, Stop { number: 7, step: "P's pivot" }, "P's factor entry")?;
+    let s = total.sqrt();
+    let mut points = x[..n].to_vec();
+    for j in 0..n {
+        points.extend((0..n).map(|i| x[i] + s * l[i * n + j]));
+    }
+    for j in 0..n {
+        points.extend((0..n).map(|i| x[i] - s * l[i * n + j]));
+    }
+    checked(points, "points")
+}
+
+/// The anchored mean of points of d numbers each.
+fn mean(points: &[f64], d: usize, kinds: &[Kind], w0m: f64, wi: f64) -> Vec<f64> {
+    let count = points.len() / d;
+    let weight_sum = (1..count).fold(w0m, |sum, _| sum + wi);
+    (0..d)
+        .map(|i| {
+            let offset = (1..count).fold(0.0, |sum, k| sum + wi * kinds[i].fixed(points[k * d + i] - points[i]));
+            weight_sum * points[i] + offset
+        })
+        .collect()
+}
+
+/// Points minus mean, through the kinds; point after point.
+fn deviations(points: &[f64], d: usize, kinds: &[Kind], mean: &[f64]) -> Vec<f64> {
+    points.iter().enumerate().map(|(at, number)| kinds[at % d].fixed(number - mean[at % d])).collect()
+}
+
+/// Sum over the points of w·a[i]·b[j], rows×columns.
+fn spread(a: &[f64], b: &[f64], rows: usize, columns: usize, w0c: f64, wi: f64) -> Vec<f64> {
+    let count = a.len() / rows;
+    let mut out = vec![0.0; rows * columns];
+    for i in 0..rows {
+        for j in 0..columns {
+            for k in 0..count {
+                let w = if k == 0 { w0c } else { wi };
+                out[i * columns + j] += w * a[k * rows + i] * b[k * columns + j];
+            }
+        }
+    }
+    out
+}
+
+fn added(a: &[f64], b: &[f64]) -> Vec<f64> {
+    a.iter().zip(b).map(|(a, b)| a + b).collect()
+}
+
+/// What a close of a prediction works from.
+pub struct Prediction<'a> {
+    pub n: usize,
+    pub q: &'a [f64],
+    pub kinds: &'a [Kind],
+    pub w0m: f64,
+    pub w0c: f64,
+    pub wi: f64,
+    pub propagated: &'a [f64],
+}
+
+/// x and P after a prediction.
+pub fn predict(given: &Prediction) -> Result<(Vec<f64>, Vec<f64>), Stop> {
+    let n = given.n;
+    let x = checked(mean(given.propagated, n, given.kinds, given.w0m, given.wi), "mean")?;
+    let dx = deviations(given.propagated, n, given.kinds, &x);
+    let p = checked(added(given.q, &spread(&dx, &dx, n, n, given.w0c, given.wi)), "P")?;
+    Ok((x, p))
+}
+
+/// What a close of a correction works from.
+pub struct Correction<'a> {
+    pub n: usize,
+    pub m: usize,
+    pub x: &'a [f64],
+    pub p: &'a [f64],
+    pub kinds: &'a [Kind],
+    pub w0m: f64,
+    pub w0c: f64,
+    pub wi: f64,
+    pub points: &'a [f64],
+    pub z: &'a [f64],
+    pub r: &'a [f64],
+    pub measured: &'a [Kind],
+    pub observed: &'a [f64],
+}
+
+/// x and P after a correction, and what was worked out on the way, under document 01's letters.
+#[derive(Clone, Debug)]
+pub struct Corrected {
+    pub x: Vec<f64>,
+    pub p: Vec<f64>,
+    pub c: Vec<f64>,
+    pub l: Vec<f64>,
+    pub v: Vec<f64>,
+    pub k: Vec<f64>,
+    pub y: Vec<f64>,
+    pub t: Vec<f64>,
+}
+
+pub fn correct(given: &Correction) -> Result<Corrected, Stop> {
+    let (n, m, w0c, wi) = (given.n, given.m, given.w0c, given.wi);
+    let z_mean = checked(mean(given.observed, m, given.measured, given.w0m, wi), "z mean")?;
+    let dz = deviations(given.observed, m, given.measured, &z_mean);
+    let s = checked(added(given.r, &spread(&dz, &dz, m, m, w0c, wi)), "S")?;
+    let x_mean = checked(mean(given.points, n, given.kinds, given.w0m, wi), "x mean")?;
+    let dx = deviations(given.points, n, given.kinds, &x_mean);
+    let c = checked(spread(&dx, &dz, n, m, w0c, wi), "cross covariance")?;
+    let l = factor(&s, m, Stop { number: 8, step: "S's pivot" }, "S's factor entry")?;
+    let v = checked(inverse(&l, m), "inverse")?;
+    let k = checked(times_transposed(&c, &v, n, m, m), "gain")?;
+    let y = checked((0..m).map(|j| given.measured[j].fixed(given.z[j] - z_mean[j])).collect(), "y")?;
+    let x = checked((0..n).map(|i| given.x[i] + (0..m).fold(0.0, |sum, j| sum + k[i * m + j] * y[j])).collect(), "x")?;
+    let t = times_transposed(&c, &k, n, n, m);
+    let p = checked(given.p.iter().zip(&t).map(|(p, t)| p - t).collect(), "P")?;
+    Ok(Corrected { x, p, c, l, v, k, y, t })
+}

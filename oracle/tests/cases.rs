@@ -1,0 +1,53 @@
+//! Document 01's cases and the example of docs/SCRIPT.md, held to answers written by hand.
+
+use oracle::script::Reader;
+
+fn answers(script: &str) -> Vec<String> {
+    let mut reader = Reader::default();
+    script.lines().filter_map(|line| reader.answer(line.as_bytes()).expect("the published Rust and document 01 agree")).collect()
+}
+
+#[test]
+fn cases_of_document_01() {
+    let expected: Vec<&str> = include_str!("../cases.expected").lines().collect();
+    assert_eq!(answers(include_str!("../cases.script")), expected);
+}
+
+#[test]
+fn example_of_the_script() {
+    let script = "
+        new 1 1 4000000000000000 1 4010000000000000 1 3ff0000000000000 3ff0000000000000 0000000000000000 0000000000000000
+        openp 3
+        closep 3 4000000000000000 4010000000000000 0000000000000000
+        openc 3
+        closec 1 1 4008000000000000 1 4028000000000000 p p p p 3 4000000000000000 4010000000000000 0000000000000000";
+    let expected = [
+        "0",
+        "0 3 4000000000000000 4010000000000000 0000000000000000",
+        "0 x 4000000000000000 P 4014000000000000",
+        "0 3 4000000000000000 4010000000000000 0000000000000000",
+        "0 x 4002000000000000 P 4010000000000000",
+    ];
+    assert_eq!(answers(script), expected);
+}
+
+/// What is a line, a token, a number.
+#[test]
+fn lines() {
+    let long = |length: usize| format!("root 4010000000000000{}", " ".repeat(length - 21));
+    let last = |line: &str| answers(line).pop();
+    let four = Some("0 4000000000000000".to_string());
+    let bad = Some("bad".to_string());
+    assert_eq!(last(&long(16_384)), four);
+    assert_eq!(last(&long(16_385)), bad);
+    assert_eq!(last(&format!("#{}", " ".repeat(16_384))), bad);
+    assert_eq!(last("\troot \t 4010000000000000#4"), four);
+    assert_eq!(last("   # root"), None);
+    assert_eq!(last("root 401000000000000"), bad);
+    assert_eq!(last("root 4010000000000000 0"), bad);
+    assert_eq!(last("readx 512").map(|answer| answer.len()), Some("1 512".len() + 512 * 17));
+    assert_eq!(last("readx 513"), bad);
+    assert_eq!(last("readx +1"), bad);
+    assert_eq!(last("root 7FF0000000000001"), Some("5".into()));
+    assert_eq!(last("point 1 0 3 7FF0000000000001 FFF0000000000000 8000000000000000"), Some("0 0 1 7ff8000000000000".into()));
+}
