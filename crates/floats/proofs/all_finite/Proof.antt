@@ -1,7 +1,7 @@
 -- `floats::all_finite` meets its contract: the numbers before i have passed, and the first that fails, the list's end or k decides. Assumes nothing.
 use borrow.Author.Needs.{needs}
 use borrow.Author.Tests.{not-true, not-false}
-use mathlib.Core.Path.{_≡_, sym, _∙_}
+use mathlib.Core.Path.{sym, _∙_}
 use Prim.Native.Nat.{_≤_, _-_}
 use native.Mathlib.Omega.{arith}
 use Rattle.floats.proofs.Finite.{Passed, passed-none, passed-more, passed-bad, passed-over, passed-end}

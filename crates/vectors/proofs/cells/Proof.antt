@@ -1,5 +1,4 @@
 -- `vectors::cells` meets its contract: at most 8 rows of at most 8. Assumes nothing.
-use Prim.Native.Nat.{_*_}
 use native.Mathlib.Nat.{mul-le-mul}
 use native.Mathlib.Omega.{arith}
 use Rattle.vectors.proofs.cells.Statement.{statement}
