@@ -6,12 +6,19 @@ use Rattle.floats.specs.Numbers.{allFinite, aboveZero, zeros}
 use Rattle.floats.specs.Fronts.{front}
 use Rattle.root.specs.Definition.{rootOf, rooted, rootUnits, nearRoot, floorRoot}
 use Rattle.angles.specs.Wrap.{wrapOf, halfTurn, wrapStep, brought}
-use Rattle.matrix.specs.Folds.{totalOf}
-use Rattle.matrix.specs.Results.{worked}
+use Rattle.matrix.specs.Folds.{totalOf, placesOf, builtOf, rowOf, rowsOf}
+use Rattle.matrix.specs.Results.{worked, run}
 use Rattle.matrix.specs.Factor.{rowsFrom, columnOf, columnsFrom}
+use Rattle.matrix.specs.Inverse.{unitAt}
+use Rattle.sigma.specs.Weights.{lambdaOf, scaleOf, w0mOf, w0cOf, wiOf, weightsPass}
+use Rattle.sigma.specs.Draw.{pointAt}
+use Rattle.filter.specs.Asked.{inRange, guarded}
+use Rattle.filter.specs.Steps.{step}
+use Rattle.filter.specs.New.{newOf}
+use Rattle.demands.specs.Runs.{tells, told}
 use Rattle.demands.specs.Written.{_is_, _are_, failing}
 use Rattle.demands.specs.Cases.{cases}
 
 pub claim : failing cases ≡ []
-unfolding _is_ _are_ ofInt ofBits toBits add sub mul rem div neg lt le size odd allFinite aboveZero zeros front rootOf rooted rootUnits nearRoot floorRoot wrapOf halfTurn wrapStep brought totalOf worked rowsFrom columnOf columnsFrom
+unfolding _is_ _are_ ofInt ofBits toBits add sub mul rem div neg lt le size odd allFinite aboveZero zeros front rootOf rooted rootUnits nearRoot floorRoot wrapOf halfTurn wrapStep brought totalOf placesOf builtOf rowOf rowsOf worked run rowsFrom columnOf columnsFrom unitAt lambdaOf scaleOf w0mOf w0cOf wiOf weightsPass pointAt inRange guarded step newOf tells told
 claim = refl

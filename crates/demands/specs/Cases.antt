@@ -1,18 +1,44 @@
--- THE TABLE OF CASES: document 01's numbers to check by hand, each a name and a test that antt computes. Definitions only.
+-- THE TABLE OF CASES: document 01's numbers to check by hand, C1 to C12, each a name and a test that antt computes. Definitions only.
+use Prim.Native.Nat.{ℕ}
 use Prim.Native.String.{String}
-use mathlib.Core.Bool.{Bool, false, _&&_}
-use mathlib.Core.List.{List, [], _∷_}
-use lib.ListN.{take}
+use mathlib.Core.Bool.{Bool, true, false, _&&_, Bool·beq}
+use mathlib.Core.List.{List, [], _∷_, _++_, map}
+use lib.ListN.{take, getD, replicate}
 use lib.Dec.{eqb}
-use lib.Ieee.{Float, binary64, ofBits}
+use lib.Ieee.{Float, nan, binary64, ofBits}
 use Rattle.floats.specs.Refusal.{PIVOT, Outcome, refused, accepted, refusal, or}
 use Rattle.floats.specs.Numbers.{zeros}
 use Rattle.floats.specs.Fronts.{front}
 use Rattle.root.specs.Answer.{outcomeOf, answer}
 use Rattle.angles.specs.Wrap.{wrapOf, wrapped}
-use Rattle.matrix.specs.Results.{worked}
-use Rattle.matrix.specs.Factor.{factorOf, leftOf}
-use Rattle.demands.specs.Written.{int, minus, two-to-minus, _is_, _are_}
+use Rattle.angles.specs.Kinds.{plain}
+use Rattle.angles.specs.declared.Residual.the-variants.{Turn}
+use Rattle.matrix.specs.Results.{Result, numbers, pivot, rooting, worked, results}
+use Rattle.matrix.specs.Factor.{factorOf}
+use Rattle.sigma.specs.declared.Params.{Params}
+use Rattle.sigma.specs.Weights.{lambdaOf, scaleOf, w0mOf, w0cOf, wiOf, weightsOf}
+use Rattle.sigma.specs.Mean.{meanOf}
+use Rattle.correction.specs.Correct.{Given, given}
+use Rattle.filter.specs.declared.Filter.{Filter}
+use Rattle.filter.specs.Calls.{Call, setting, closing, abandon, reading, set-x, set-p, set-kind, open-prediction, open-correction, close-prediction, close-correction, read-points, read-stale}
+use Rattle.filter.specs.New.{newAnswer}
+use Rattle.demands.specs.Listed.{innovationCovariance, gain}
+use Rattle.demands.specs.Runs.{Told, told}
+use Rattle.demands.specs.Written.{int, minus, frac, two-to-minus, _is_, _are_}
+
+-- ---- parameters
+
+abbrev pub params : Float → Float → Float → Params
+params a b k = record { alpha = a; beta = b; kappa = k }
+
+abbrev pub c1 : Params
+c1 = params (int 1) (int 0) (int 0)
+
+abbrev pub c2 : Params
+c2 = params (int 1) (int 2) (int 1)
+
+abbrev pub c4 : Params
+c4 = params (int 1) (int 0) (minus 1)
 
 -- ---- leaves
 
@@ -32,11 +58,86 @@ wrapIs d w = let a = wrapped (wrapOf binary64 d (int 180)) in eqb (a .refusal) 0
 abbrev pub rows : Float → Float → Float → Float → List Float
 rows a b c d = front 4 (a ∷ b ∷ c ∷ d ∷ []) (zeros 64)
 
+-- the number that a listed result checks, where it is one
+abbrev pub checked : Result → Float
+checked (numbers v) = getD v 0 nan
+checked (pivot r x) = x
+checked (rooting x) = x
+
+-- what C10's correction is given
+abbrev pub c10 : Given
+c10 =
+    given 1 1 (int 2 ∷ []) (int 5 ∷ []) (int 2 ∷ int 4 ∷ int 0 ∷ []) (int 2 ∷ int 4 ∷ int 0 ∷ []) (w0mOf binary64 1 c1) (weightsOf binary64 1 c1) (int 3 ∷ []) (int 12 ∷ []) (plain ∷ []) (plain ∷ [])
+
+-- ---- C9 to C12 through the calls, one run: a state of 2 with P = 4, Q = 1, parameters C1
+
+abbrev pub at-first : Filter
+at-first = newAnswer binary64 1 (int 2 ∷ []) (int 4 ∷ []) (int 1 ∷ []) c1 .filter
+
+-- a lent buffer of three
+abbrev pub three : List Float
+three = nan ∷ nan ∷ nan ∷ []
+
+-- z with R = 12 and the observed points, all kinds plain
+abbrev pub measuring : Float → List Float → Call
+measuring z observed = closing (close-correction 1 (z ∷ []) (int 12 ∷ []) (replicate 4 plain) observed)
+
+-- what a call should tell: the number, the numbers given, and x, P and the stale mark after it
+abbrev pub telling : ℕ → List Float → Float → Float → Bool → Told
+telling number given x p stale = record { reply = record { refusal = number; given = given; stale = true }; x = x ∷ []; p = p ∷ []; stale = stale }
+
+-- and a reading of the stale mark
+abbrev pub marking : Float → Float → Bool → Told
+marking x p stale = record { reply = record { refusal = 0; given = []; stale = stale }; x = x ∷ []; p = p ∷ []; stale = stale }
+
+abbrev pub story : List (String × (Call × Told))
+story =
+    ("C9 open", (setting (open-prediction three), telling 0 (int 2 ∷ int 4 ∷ int 0 ∷ []) (int 2) (int 4) true))
+    ∷ ("C9 close", (closing (close-prediction (int 2 ∷ int 4 ∷ int 0 ∷ [])), telling 0 [] (int 2) (int 5) false))
+    ∷ ("C9 points installed", (reading (read-points three), telling 0 (int 2 ∷ int 4 ∷ int 0 ∷ []) (int 2) (int 5) false))
+    ∷ ("C9 not stale", (reading read-stale, marking (int 2) (int 5) false))
+    ∷ ("C10 open", (setting (open-correction three), telling 0 (int 2 ∷ int 4 ∷ int 0 ∷ []) (int 2) (int 5) false))
+    ∷ ("C10 close", (measuring (int 3) (int 2 ∷ int 4 ∷ int 0 ∷ []), telling 0 [] (frac 9 4) (int 4) true))
+    ∷ ("C10 stale", (reading read-stale, marking (frac 9 4) (int 4) true))
+    ∷ ("C10 points not read", (reading (read-points three), telling 4 [] (frac 9 4) (int 4) true))
+    ∷ ("C11 open", (setting (open-correction three), telling 0 (frac 9 4 ∷ frac 17 4 ∷ frac 1 4 ∷ []) (frac 9 4) (int 4) true))
+    ∷ ("C11 close", (measuring (frac 17 4) (frac 9 4 ∷ frac 17 4 ∷ frac 1 4 ∷ []), telling 0 [] (frac 11 4) (int 3) true))
+    ∷ ("then x = 3", (setting (set-x (int 3 ∷ [])), telling 0 [] (int 3) (int 3) true))
+    ∷ ("and P = 4", (setting (set-p (int 4 ∷ [])), telling 0 [] (int 3) (int 4) true))
+    ∷ ("drawn afresh once more", (setting (open-correction three), telling 0 (int 3 ∷ int 5 ∷ int 1 ∷ []) (int 3) (int 4) true))
+    ∷ ("abandoned", (abandon, telling 0 [] (int 3) (int 4) true))
+    ∷ ("C12 a turn", (setting (set-kind 0 (record { residual = Turn (int 180) })), telling 0 [] (int 3) (int 4) true))
+    ∷ ("C12 open", (setting (open-prediction three), telling 0 (int 3 ∷ int 5 ∷ int 1 ∷ []) (int 3) (int 4) true))
+    ∷ ("C12 close", (closing (close-prediction (int 179 ∷ minus 171 ∷ int 169 ∷ [])), telling 0 [] (int 179) (int 101) false))
+    ∷ []
+
+abbrev pub agrees : Told → Told → Bool
+agrees t e =
+    eqb (t .reply .refusal) (e .reply .refusal)
+    && ((t .reply .given are e .reply .given) && (Bool·beq (t .reply .stale) (e .reply .stale) && ((take 1 (t .x) are e .x) && ((take 1 (t .p) are e .p) && Bool·beq (t .stale) (e .stale)))))
+
+abbrev pub against : List (String × (Call × Told)) → List Told → List (String × Bool)
+against [] ts = []
+against (e ∷ es) [] = (e .0, false) ∷ against es []
+against (e ∷ es) (t ∷ ts) = (e .0, agrees t (e .1 .1)) ∷ against es ts
+
 -- ---- THE TABLE
 
-abbrev pub cases : List (String × Bool)
-cases =
-    ("C5 root of 16", rootIs (int 16) (int 4))
+abbrev pub leafCases : List (String × Bool)
+leafCases =
+    ("C1 lambda", lambdaOf binary64 1 c1 is int 0)
+    ∷ ("C1 w0m", w0mOf binary64 1 c1 is int 0)
+    ∷ ("C1 w0c", w0cOf binary64 1 c1 is int 0)
+    ∷ ("C1 wi", wiOf binary64 1 c1 is frac 1 2)
+    ∷ ("C2 w0m", w0mOf binary64 1 c2 is frac 1 2)
+    ∷ ("C2 w0c", w0cOf binary64 1 c2 is frac 5 2)
+    ∷ ("C2 wi", wiOf binary64 1 c2 is frac 1 4)
+    ∷ ("C3 w0m", w0mOf binary64 2 c1 is int 0)
+    ∷ ("C3 w0c", w0cOf binary64 2 c1 is int 0)
+    ∷ ("C3 wi", wiOf binary64 2 c1 is frac 1 4)
+    ∷ ("C4 N", scaleOf binary64 1 c4 is int 0)
+    ∷ ("C4 refused", eqb (newAnswer binary64 1 (int 2 ∷ []) (int 4 ∷ []) (int 1 ∷ []) c4 .refusal) 6)
+    ∷ ("C5 root of 16", rootIs (int 16) (int 4))
     ∷ ("C5 root of 2^−1074", rootIs (two-to-minus 1074) (two-to-minus 537))
     ∷ ("C5 root of 2", rootIs (int 2) (ofBits binary64 0x3FF6_A09E_667F_3BCD))
     ∷ ("C6 350", wrapIs (int 350) (minus 10))
@@ -46,6 +147,15 @@ cases =
     ∷ ("C6 540", wrapIs (int 540) (int 180))
     ∷ ("C6 −350", wrapIs (minus 350) (int 10))
     ∷ ("C7", take 4 (or [] (worked (factorOf binary64 PIVOT (rows (int 4) (int 2) (int 2) (int 5)) 2))) are (int 2 ∷ int 0 ∷ int 1 ∷ int 2 ∷ []))
-    ∷ ("C8 pivot", leftOf binary64 PIVOT (rows (int 1) (int 2) (int 2) (int 1)) 2 1 1 (rows (int 1) (int 0) (int 2) (int 0)) is minus 3)
+    ∷ ("C8 second pivot", checked (getD (results (factorOf binary64 PIVOT (rows (int 1) (int 2) (int 2) (int 1)) 2)) 2 (numbers [])) is minus 3)
     ∷ ("C8 refused", eqb (refusal (worked (factorOf binary64 PIVOT (rows (int 1) (int 2) (int 2) (int 1)) 2))) 7)
+    ∷ ("C10 S", take 1 (innovationCovariance binary64 c10) are (int 16 ∷ []))
+    ∷ ("C10 K", take 1 (gain binary64 c10) are (frac 1 4 ∷ []))
+    ∷ ("C12 mean", take 1 (meanOf binary64 (int 179 ∷ minus 171 ∷ int 169 ∷ []) 1 2 (w0mOf binary64 1 c1) (weightsOf binary64 1 c1) (record { residual = Turn (int 180) } ∷ [])) are (int 179 ∷ []))
     ∷ []
+
+abbrev pub callCases : List (String × Bool)
+callCases = against story (told binary64 at-first (map (λ e. e .1 .0) story))
+
+abbrev pub cases : List (String × Bool)
+cases = leafCases ++ callCases

@@ -6,6 +6,7 @@ pub mod Turns
 pub mod Cells
 pub mod Roots
 pub mod Results
+pub mod Mapped
 pub mod FactorSteps
 pub mod FactorLaws
 pub mod InverseLaws

@@ -67,7 +67,7 @@ outcome-answer x = go (rooted x)
     go true = refl
     go false = refl
 
-one-case : (a b : Root) → outcomeOf a ≡ outcomeOf b → a ≡ b
+pub one-case : (a b : Root) → outcomeOf a ≡ outcomeOf b → a ≡ b
 one-case (Value r) (Value q) k = cc
 one-case (Value r) Refused k = let z : _≡_ {A = ℕ} 0 1 = cc in absurd (omega arith)
 one-case Refused (Value q) k = let z : _≡_ {A = ℕ} 0 1 = cc in absurd (omega arith)

@@ -1,0 +1,122 @@
+-- Arrays as the invariant sees them: finite where in use, +0 where not; fronts of lent slices, and what is filled place by place or row by row. Assumes nothing.
+use Prim.Native.Nat.{ℕ, zero, suc, _+_, _-_, _*_, _≤_}
+use mathlib.Core.Path.{_≡_, refl, sym, ap, _∙_}
+use mathlib.Core.Bool.{true}
+use mathlib.Core.List.{List, [], _∷_, _++_}
+use native.Mathlib.Nat.{suc-mul}
+use native.Mathlib.Omega.{arith}
+use lib.ListN.{length, take, drop, set, replicate, take-append-drop}
+use lib.Seq.{take-at, drop-at, length-take-le, drop-set-lt}
+use lib.Ieee.{Float, Format}
+use lib.Ieee.Scale.{finite}
+use Rattle.floats.specs.Numbers.{plusZero, zeros, allFinite}
+use Rattle.floats.specs.Fronts.{front}
+use Rattle.floats.proofs.Finite.{all-append, all-zeros}
+use Rattle.floats.proofs.Fronts.{length-front}
+use Rattle.angles.specs.Kinds.{numbersIn}
+use Rattle.angles.specs.declared.Kind.{Kind}
+use Rattle.matrix.specs.Folds.{placesOf, rowOf, rowsOf}
+use Rattle.matrix.proofs.Cells.{length-zeros, length-places, length-rows}
+use Rattle.filter.specs.Asked.{by-kind, fit, every}
+use Rattle.filter.specs.Calls.{inKinds, asKinds}
+use Rattle.demands.specs.Sound.{Filled}
+use Rattle.demands.proofs.Passed.{both, both-true}
+
+-- ---- all finite
+
+pub all-both : (a b : List Float) → allFinite a ≡ true → allFinite b ≡ true → allFinite (a ++ b) ≡ true
+all-both a b h k = all-append a b ∙ both-true h k
+
+pub all-parts : (a b : List Float) → allFinite (a ++ b) ≡ true → (allFinite a ≡ true) × (allFinite b ≡ true)
+all-parts a b h = both (sym (all-append a b) ∙ h)
+
+all-set : (l : List Float) (i : ℕ) (x : Float) → allFinite l ≡ true → finite x ≡ true → allFinite (set l i x) ≡ true
+unfolding allFinite
+all-set [] i x h k = h
+all-set (y ∷ l) zero x h k = both-true k (both {a = finite y} h .1)
+all-set (y ∷ l) (suc i) x h k =
+    let p = both {a = finite y} {b = allFinite l} h in
+    both-true {a = finite y} (p .0) (all-set l i x (p .1) k)
+
+pub all-places : (e : ℕ → Float) → ((i : ℕ) → finite (e i) ≡ true) → (k : ℕ) (t : List Float) → allFinite t ≡ true → allFinite (placesOf e k t) ≡ true
+unfolding placesOf
+all-places e h zero t g = g
+all-places e h (suc k) t g = all-set (placesOf e k t) k (e k) (all-places e h k t g) (h k)
+
+-- ---- what stands past the places in use
+
+drop-same : (k m : ℕ) (a : Float) → drop k (replicate m a) ≡ replicate (m - k) a
+drop-same zero m a = let e : m - 0 ≡ m = omega arith in ap (λ (j : ℕ). replicate j a) (sym e)
+drop-same (suc k) zero a = let e : 0 - suc k ≡ 0 = omega arith in ap (λ (j : ℕ). replicate j a) (sym e)
+drop-same (suc k) (suc m) a = let e : suc m - suc k ≡ m - k = omega arith in drop-same k m a ∙ ap (λ (j : ℕ). replicate j a) (sym e)
+
+pub drop-zeros : (k m : ℕ) → drop k (zeros m) ≡ zeros (m - k)
+unfolding zeros
+drop-zeros k m = drop-same k m plusZero
+
+drop-places : (e : ℕ → Float) (d k : ℕ) (t : List Float) → k ≤ d → drop d (placesOf e k t) ≡ drop d t
+unfolding placesOf
+drop-places e d zero t h = refl
+drop-places e d (suc k) t h = drop-set-lt d (placesOf e k t) k (e k) (omega arith) ∙ drop-places e d k t (omega arith)
+
+module _ (e : ℕ → ℕ → Float) (n d : ℕ) where
+  drop-row : (i k : ℕ) (t : List Float) → i * n + k ≤ d → drop d (rowOf e n i k t) ≡ drop d t
+  unfolding rowOf
+  drop-row i zero t h = refl
+  drop-row i (suc k) t h = drop-set-lt d (rowOf e n i k t) (i * n + k) (e i k) (omega arith) ∙ drop-row i k t (omega arith)
+
+  drop-rows : (m : ℕ) (t : List Float) → m * n ≤ d → drop d (rowsOf e n m t) ≡ drop d t
+  unfolding rowsOf
+  drop-rows zero t h = refl
+  drop-rows (suc m) t h = drop-row m n (rowsOf e n m t) (omega (arith, suc-mul m n)) ∙ drop-rows m t (omega (arith, suc-mul m n))
+
+-- ---- arrays
+
+pub filled-places : (e : ℕ → Float) (k m : ℕ) → allFinite (take k (placesOf e k (zeros m))) ≡ true → Filled k m (placesOf e k (zeros m))
+filled-places e k m h = record {
+  long = length-places e k (zeros m) ∙ length-zeros m;
+  bounded = h;
+  unused = drop-places e k k (zeros m) (omega arith) ∙ drop-zeros k m;
+}
+
+pub filled-rows : (e : ℕ → ℕ → Float) (n k m : ℕ) → allFinite (take (k * n) (rowsOf e n k (zeros m))) ≡ true → Filled (k * n) m (rowsOf e n k (zeros m))
+filled-rows e n k m h = record {
+  long = length-rows e n k (zeros m) ∙ length-zeros m;
+  bounded = h;
+  unused = drop-rows e n (k * n) k (zeros m) (omega arith) ∙ drop-zeros (k * n) m;
+}
+
+pub filled-front : (k m : ℕ) (s : List Float) → k ≤ length s → k ≤ m → allFinite (take k s) ≡ true → Filled k m (front k s (zeros m))
+unfolding front
+filled-front k m s h g a = record {
+  long = length-front s (zeros m) k h (omega (arith, length-zeros m)) ∙ length-zeros m;
+  bounded = ap allFinite (take-at (take k s) (drop k (zeros m)) k (length-take-le k s h)) ∙ a;
+  unused = drop-at (take k s) (drop k (zeros m)) k (length-take-le k s h) ∙ drop-zeros k m;
+}
+
+pub filled-zeros : (m : ℕ) → Filled 0 m (zeros m)
+unfolding allFinite
+filled-zeros m = record { long = length-zeros m; bounded = refl; unused = let e : m - 0 ≡ m = omega arith in ap zeros (sym e) }
+
+-- all of such an array is finite
+pub filled-all : {k m : ℕ} {l : List Float} → Filled k m l → allFinite l ≡ true
+filled-all {k} {m} {l} a =
+    ap allFinite (sym (take-append-drop k l))
+    ∙ all-both (take k l) (drop k l) (a .bounded) (ap allFinite (a .unused) ∙ all-zeros (m - k))
+
+-- ---- kinds
+
+module _ (k : Kind) where
+  pub kinds-finite : (ks : List Kind) (i : ℕ) → allFinite (inKinds ks) ≡ true → allFinite (numbersIn (k .residual)) ≡ true → allFinite (inKinds (set ks i k)) ≡ true
+  kinds-finite [] i h g = h
+  kinds-finite (j ∷ ks) zero h g = all-both (numbersIn (k .residual)) (inKinds ks) g (all-parts (numbersIn (j .residual)) (inKinds ks) h .1)
+  kinds-finite (j ∷ ks) (suc i) h g =
+      let p = all-parts (numbersIn (j .residual)) (inKinds ks) h in
+      all-both (numbersIn (j .residual)) (inKinds (set ks i k)) (p .0) (kinds-finite ks i (p .1) g)
+
+  pub kinds-fit : (f : Format) (ks : List Kind) (i : ℕ) → every (fit f) (asKinds ks) ≡ true → fit f (by-kind k) ≡ true → every (fit f) (asKinds (set ks i k)) ≡ true
+  kinds-fit f [] i h g = h
+  kinds-fit f (j ∷ ks) zero h g = both-true g (both {a = fit f (by-kind j)} h .1)
+  kinds-fit f (j ∷ ks) (suc i) h g =
+      let p = both {a = fit f (by-kind j)} {b = every (fit f) (asKinds ks)} h in
+      both-true {a = fit f (by-kind j)} (p .0) (kinds-fit f ks i (p .1) g)

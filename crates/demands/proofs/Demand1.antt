@@ -1,0 +1,146 @@
+-- Demand 1: a call ends with a result or one of the nine refusals, each exactly when its row says; what is refused changes nothing; every number handed out is finite. Over every format. Assumes nothing.
+use Prim.Native.Nat.{ℕ}
+use mathlib.Core.Path.{_≡_}
+use mathlib.Core.Bool.{true, false, cond}
+use mathlib.Core.List.{List, []}
+use mathlib.Core.Logic.{_↔_, _≢_, _⊎_}
+use lib.Ieee.{Float, Format, add}
+use Rattle.floats.specs.Refusal.{Refusal, NUMBER, PARAM, SIZE, STAGE, number, refusal}
+use Rattle.floats.specs.Numbers.{plusZero, zeros, allFinite}
+use Rattle.floats.specs.Fronts.{front, over}
+use Rattle.angles.specs.Wrap.{wrapOf}
+use Rattle.angles.specs.Kinds.{numbersIn, kindOf}
+use Rattle.angles.specs.declared.Kind.{Kind}
+use Rattle.matrix.specs.Results.{planned}
+use Rattle.sigma.specs.declared.Params.{Params}
+use Rattle.sigma.specs.Weights.{scaleOf, w0mOf}
+use Rattle.sigma.specs.Draw.{pointNumbers}
+use Rattle.filter.specs.declared.Filter.{Filter}
+use Rattle.filter.specs.Filters.{seen}
+use Rattle.filter.specs.Calls.{Call, setting, closing, open-prediction, open-correction, close-prediction, close-correction, fits, asks, plan}
+use Rattle.filter.specs.Steps.{step, paramsRead, staleRead}
+use Rattle.filter.specs.New.{empty, newAsks, newAnswer}
+use Rattle.filter.specs.Point.{pointAsks, pointRefusal, pointOf}
+use Rattle.demands.specs.Rows.{Some, NotFinite, NotAbove, OutOfRange, UnfitTurn, FirstFails, Cause, Applies, Due, ByStep, Neither}
+use Rattle.demands.specs.Listed.{listedAtOpen, listedAtPrediction, listedAtCorrection, measured}
+use Rattle.demands.specs.Runs.{told}
+use Rattle.demands.specs.Sound.{Sound, Tidy, Reached, Yielded, handedOut, Each}
+use Rattle.demands.proofs.Exactly.{exactly, taken-exactly, new-exactly, new-taken, point-exactly, point-taken, wrap-exactly, wrap-taken, kind-exactly, kind-taken, ends-so, refused-unwritten, refused-values, new-refused, point-refused}
+use Rattle.demands.proofs.Listed.{open-prediction-lists, open-correction-lists, close-prediction-lists, close-correction-lists}
+use Rattle.demands.proofs.Table.{steps-give, stage-exactly, states-first}
+use Rattle.demands.proofs.Sound.{sound, tidy, all-handed-finite}
+use Rattle.demands.proofs.Opening.{opening-prediction, opening-correction}
+
+module _ (f : Format) where
+  -- ---- a result or a refusal, exactly when
+
+  -- Any call on any bits ends with 0 or with one of the nine numbers;
+  pub a-result-or-a-refusal : (s : Filter) (c : Call) → (step f s c .reply .refusal ≡ 0) ⊎ ((r : Refusal) × (step f s c .reply .refusal ≡ number r))
+  a-result-or-a-refusal = ends-so f
+
+  -- a number is given exactly when its row of the table applies and no row before it in the order does,
+  pub exactly-when : (s : Filter) (c : Call) (r : Refusal) → (step f s c .reply .refusal ≡ number r) ↔ Due f (asks (seen s) c) (planned (plan f (seen s) c)) r
+  exactly-when = exactly f
+
+  -- and the call is taken exactly when no row applies.
+  pub taken-when : (s : Filter) (c : Call) → (step f s c .reply .refusal ≡ 0) ↔ ((d : Cause) → Applies f (asks (seen s) c) (planned (plan f (seen s) c)) d → ⊥)
+  taken-when = taken-exactly f
+
+  -- The same of New, which has no steps,
+  pub new-exactly-when : (n : ℕ) (x p q : List Float) (params : Params) (r : Refusal) → (newAnswer f n x p q params .refusal ≡ number r) ↔ Due f (newAsks f n x p q params) [] r
+  new-exactly-when = new-exactly f
+
+  pub new-taken-when : (n : ℕ) (x p q : List Float) (params : Params) → (newAnswer f n x p q params .refusal ≡ 0) ↔ ((d : Cause) → Applies f (newAsks f n x p q params) [] d → ⊥)
+  new-taken-when = new-taken f
+
+  -- of point k of a lent list,
+  pub point-exactly-when : (l : List Float) (n k : ℕ) (r : Refusal) → (pointRefusal f l n k ≡ number r) ↔ Due f (pointAsks f l n k) [] r
+  point-exactly-when = point-exactly f
+
+  pub point-taken-when : (l : List Float) (n k : ℕ) → (pointRefusal f l n k ≡ 0) ↔ ((d : Cause) → Applies f (pointAsks f l n k) [] d → ⊥)
+  point-taken-when = point-taken f
+
+  -- of the wrap: 5 exactly when d or h isn't finite, 6 exactly when both are and h isn't above 0 or 2h isn't finite, and no other number,
+  pub wrap-exactly-when : (d h : Float) (r : Refusal)
+      → (refusal (wrapOf f d h) ≡ number r) ↔ (((r ≡ NUMBER) × (NotFinite d ⊎ NotFinite h)) ⊎ ((r ≡ PARAM) × (NotFinite d ⊎ NotFinite h → ⊥) × (NotAbove h ⊎ NotFinite (add f h h))))
+  wrap-exactly-when = wrap-exactly f
+
+  pub wrap-taken-when : (d h : Float) → (refusal (wrapOf f d h) ≡ 0) ↔ ((NotFinite d ⊎ NotFinite h → ⊥) × (NotAbove h ⊎ NotFinite (add f h h) → ⊥))
+  wrap-taken-when = wrap-taken f
+
+  -- and of the check of a kind.
+  pub kind-exactly-when : (k : Kind) (r : Refusal)
+      → (refusal (kindOf f k) ≡ number r) ↔ (((r ≡ NUMBER) × Some NotFinite (numbersIn (k .residual))) ⊎ ((r ≡ PARAM) × (Some NotFinite (numbersIn (k .residual)) → ⊥) × UnfitTurn f (k .residual)))
+  kind-exactly-when = kind-exactly f
+
+  pub kind-taken-when : (k : Kind) → (refusal (kindOf f k) ≡ 0) ↔ ((Some NotFinite (numbersIn (k .residual)) → ⊥) × (UnfitTurn f (k .residual) → ⊥))
+  kind-taken-when = kind-taken f
+
+  -- So 3 is given exactly when the call doesn't fit what is open, and n outside 1 to 8 gets 1 from every call that 3 doesn't stop.
+  pub stage-when : (s : Filter) (c : Call) → (step f s c .reply .refusal ≡ number STAGE) ↔ (fits c (s .stage) ≡ false)
+  stage-when = stage-exactly f
+
+  pub size-when : (s : Filter) (c : Call) → OutOfRange (record { value = s .n; from = 1; to = 8 }) → fits c (s .stage) ≡ true → step f s c .reply .refusal ≡ number SIZE
+  size-when = states-first f
+
+  -- ---- the steps' own numbers: the first result that fails, of those that document 01 lists, in its order
+
+  -- Open: each factor entry as it is made, then all points; not stale, an open correction has none.
+  pub listed-at-open-prediction : (s : Filter) (b : List Float) → planned (plan f s (setting (open-prediction b))) ≡ listedAtOpen f (s .n) (s .x) (s .p) (scaleOf f (s .n) (s .params))
+  listed-at-open-prediction = open-prediction-lists f
+
+  pub listed-at-open-correction : (s : Filter) (b : List Float) → planned (plan f s (setting (open-correction b))) ≡ cond (s .stale) (listedAtOpen f (s .n) (s .x) (s .p) (scaleOf f (s .n) (s .params))) []
+  listed-at-open-correction = open-correction-lists f
+
+  -- Close prediction: mean, P.
+  pub listed-at-prediction : (s : Filter) (v : List Float)
+      → planned (plan f s (closing (close-prediction v))) ≡ listedAtPrediction f (s .n) (front (pointNumbers (s .n)) v (zeros 136)) (w0mOf f (s .n) (s .params)) (s .«drawn_weights») (s .kinds) (s .q)
+  listed-at-prediction = close-prediction-lists f
+
+  -- Close correction: z mean, S, x mean, cross covariance, then S's factor entries as made, inverse, gain, y, x, P.
+  pub listed-at-correction : (s : Filter) (m : ℕ) (z r : List Float) (kinds : List Kind) (observed : List Float)
+      → planned (plan f s (closing (close-correction m z r kinds observed))) ≡ listedAtCorrection f (measured f s m z r kinds observed)
+  listed-at-correction = close-correction-lists f
+
+  -- They give 5, 7, 8 and 9 alone;
+  pub steps-give-their-own : (s : Filter) (c : Call) (r : Refusal) → FirstFails r (planned (plan f (seen s) c)) → ByStep r
+  steps-give-their-own = steps-give f
+
+  -- and opening gives neither 5 nor 6, on any filter that the demands speak of.
+  pub opening-prediction-never : {s : Filter} → Yielded f s → (b : List Float) → Neither (step f s (setting (open-prediction b)) .reply .refusal)
+  opening-prediction-never = opening-prediction f
+
+  pub opening-correction-never : {s : Filter} → Yielded f s → (b : List Float) → Neither (step f s (setting (open-correction b)) .reply .refusal)
+  opening-correction-never = opening-correction f
+
+  -- ---- what is refused
+
+  -- A refused call leaves the filter and a lent buffer b as they were (`over .. b` is what the contracts say of b at exit);
+  pub refused-changes-nothing : (s : Filter) (c : Call) → step f s c .reply .refusal ≢ 0 → (step f s c .filter ≡ s) × ((b : List Float) → over (step f s c .reply .given) b ≡ b)
+  refused-changes-nothing = refused-unwritten f
+
+  -- a refused reading of values answers +0, and stale;
+  pub refused-reading : (s : Filter) (c : Call) → step f s c .reply .refusal ≢ 0
+      → (paramsRead (step f s c .reply) .params ≡ record { alpha = plusZero; beta = plusZero; kappa = plusZero }) × (staleRead (step f s c .reply) .stale ≡ true)
+  refused-reading = refused-values f
+
+  -- a refused New gives the empty filter, and a refused point an empty part.
+  pub refused-new : (n : ℕ) (x p q : List Float) (params : Params) → newAnswer f n x p q params .refusal ≢ 0 → newAnswer f n x p q params .filter ≡ empty
+  refused-new = new-refused f
+
+  pub refused-point : (l : List Float) (n k : ℕ) → pointRefusal f l n k ≢ 0 → pointOf f l n k ≡ []
+  refused-point = point-refused f
+
+  -- ---- every number is finite
+
+  -- Every number handed out, and x and P after every call, over any run on any filter that the demands speak of;
+  pub every-number-is-finite : (s : Filter) → Yielded f s → (cs : List Call) → Each (λ t. allFinite (handedOut t) ≡ true) (told f s cs)
+  every-number-is-finite = all-handed-finite f
+
+  -- such a filter is sound: finite where in use, +0 in unused places, its parameters and kinds past 5 and 6;
+  pub yielded-is-sound : {s : Filter} → Yielded f s → Sound f s
+  yielded-is-sound = sound f
+
+  -- and one that New and calls yield is tidy too: unused places of its points are +0 while stale, and scratch is while nothing is open.
+  pub reached-is-tidy : {s : Filter} → Reached f s → Sound f s × Tidy s
+  reached-is-tidy = tidy f

@@ -1,0 +1,190 @@
+-- Demand 2: every number is worked out by document 01's steps, bit for bit. The contracts say it: each names one definition, and says that all of the answer is it.
+-- Here is a line for each step, which function's contract names which definition; under it, where the definition is not the document's own text, a law that it comes to that. Over every format. Assumes nothing.
+use Prim.Native.Nat.{ℕ, _+_, _-_, _*_, _<_, _≤_}
+use mathlib.Core.Path.{_≡_, sym, ap, _∙_}
+use mathlib.Core.List.{List}
+use native.Mathlib.Nat.{mul-le-mul}
+use native.Mathlib.Omega.{arith}
+use lib.Dec.{T}
+use lib.ListN.{getD}
+use lib.Ieee.{Float, nan, Format, binary64, fits, add, sub, mul, div}
+use lib.Ieee.Scale.{finite}
+use Rattle.floats.specs.Refusal.{Refusal, PIVOT, accepted}
+use Rattle.floats.specs.Numbers.{plusZero}
+use Rattle.root.specs.Definition.{rootOf, rooted}
+use Rattle.root.specs.Nearest.{Nearest}
+use Rattle.root.specs.Answer.{answer, Asked}
+use Rattle.root.specs.declared.Root.{Root}
+use Rattle.root.proofs.Answers.{nearest-root, asked, asked-only}
+use Rattle.angles.specs.Wrap.{wrapOf, wrapped}
+use Rattle.angles.specs.Exact.{Wraps}
+use Rattle.angles.specs.Kinds.{plain, throughOf, kindOf}
+use Rattle.angles.specs.declared.Kind.{Kind}
+use Rattle.angles.specs.declared.Residual.the-variants.{Turn}
+use Rattle.angles.proofs.Exact.{wrap-exact, through-exact}
+use Rattle.matrix.specs.Folds.{totalOf}
+use Rattle.matrix.specs.Sums.{productAt, plusOf, minusOf}
+use Rattle.matrix.specs.Results.{worked, product, run}
+use Rattle.matrix.specs.Factor.{factorOf}
+use Rattle.matrix.specs.Inverse.{unitAt, forwardOf, inverseOf}
+use Rattle.matrix.specs.Product.{transbOf}
+use Rattle.matrix.proofs.Cells.{total-same, placed, plus-placed, minus-placed, transb-filled, inverse-filled}
+use Rattle.matrix.proofs.FactorLaws.{is-factor}
+use Rattle.matrix.proofs.InverseLaws.{forward-at, inverse-at}
+use Rattle.sigma.specs.declared.Params.{Params}
+use Rattle.sigma.specs.Weights.{w0cOf, wiOf, weightsOf}
+use Rattle.sigma.specs.Draw.{pointsOf, drawPlan}
+use Rattle.sigma.specs.Mean.{meanOf}
+use Rattle.sigma.specs.Spread.{deviationsOf, spreadOf}
+use Rattle.sigma.specs.Predict.{Moment, predictPlan}
+use Rattle.sigma.proofs.Entries.{weight-first, weight-other, point-first, point-plus, point-minus, drawn-filled, mean-placed, deviations-filled, spread-filled}
+use Rattle.correction.specs.Leaves.{innovationAt, innovationOf, shiftedAt, shiftedOf}
+use Rattle.correction.specs.Correct.{Given, correctPlan}
+use Rattle.demands.specs.Listed.{state, covariance}
+use Rattle.demands.proofs.Passed.{ran-made}
+
+abbrev at : List Float → ℕ → Float
+at l i = getD l i nan
+
+-- ---- Root: `square_root` (crate root) is `rootOutcome`: `rootOf`, or 5
+
+-- no value of the format is nearer to the exact root
+pub root-nearest : (f : Format) (x : Float) → T (fits f x) → T (rooted x) → Nearest f x (rootOf f x)
+root-nearest = nearest-root
+
+-- and for every f64 the answer is what document 01 asks, and nothing else is
+pub root-asked : (x : Float) → T (fits binary64 x) → Asked x (answer x)
+root-asked = asked
+
+pub root-only : (x : Float) (a : Root) → T (fits binary64 x) → Asked x a → a ≡ answer x
+root-only = asked-only
+
+module _ (f : Format) where
+  -- ---- Wrap: `wrap` (crate angles) is `wrapOf`; `through_kind` is `throughOf`
+
+  -- result and d differ by a whole multiple of 2h, and −h < result ≤ h; a zero has the sign of d
+  pub wrap-is-exact : (d h : Float) → T (fits f d) → T (fits f h) → wrapped (wrapOf f d h) .refusal ≡ 0 → Wraps f d h (wrapped (wrapOf f d h) .value)
+  wrap-is-exact = wrap-exact f
+
+  -- so does a finite difference passed through a turn that has passed its check
+  pub turn-is-exact : (h d : Float) → T (fits f d) → T (finite d) → T (fits f h) → kindOf f (record { residual = Turn h }) ≡ accepted (record { residual = Turn h }) → Wraps f d h (throughOf f (record { residual = Turn h }) d)
+  turn-is-exact = through-exact f
+
+  -- ---- Weights: `compute_weights` (crate sigma) is `lambdaOf`, `scaleOf`, `w0mOf`, `w0cOf` and `wiOf`, the document's own lines; `weights` is `weightsOf`
+
+  -- kept with the points: w0c at k = 0 and else wi
+  module _ (n : ℕ) (p : Params) (h : n ≤ 8) where
+    pub weight-at-0 : at (weightsOf f n p) 0 ≡ w0cOf f n p
+    weight-at-0 = weight-first f n p h
+
+    pub weight-at : (k : ℕ) → 0 < k → k ≤ n + n → at (weightsOf f n p) k ≡ wiOf f n p
+    weight-at = weight-other f n p h
+
+  -- ---- Factor: `cholesky_decompose_lower` (crate matrix) is `factorOf`
+
+  -- L[j][j] is the root of the pivot; under it A[i][j] less the products in turn, divided by L[j][j]; above it +0
+  module _ (r : Refusal) (a : List Float) (n : ℕ) (h : n ≤ 8) (l : List Float) (e : worked (factorOf f r a n) ≡ accepted l) where
+    pub factor-diagonal : (j : ℕ) → j < n → at l (j * n + j) ≡ rootOf f (totalOf (sub f) (at a (j * n + j)) (λ (k : ℕ). mul f (at l (j * n + k)) (at l (j * n + k))) j)
+    factor-diagonal j g = is-factor f r a n h l e .diagonal j g tt .root
+
+    pub factor-under : (i j : ℕ) → j < i → i < n → at l (i * n + j) ≡ div f (totalOf (sub f) (at a (i * n + j)) (λ (k : ℕ). mul f (at l (i * n + k)) (at l (j * n + k))) j) (at l (j * n + j))
+    factor-under i j g k = is-factor f r a n h l e .lower i j g k tt .quotient
+
+    pub factor-above : (i j : ℕ) → i < j → j < n → at l (i * n + j) ≡ plusZero
+    factor-above = is-factor f r a n h l e .upper
+
+  -- ---- Draw: `generate_sigma_points` (crate sigma) is `drawPlan`, run
+
+  -- accepted, it has made the points of the factor of P and the root of N
+  pub draw-makes : (n : ℕ) (x p : List Float) (scale : Float) (v : List Float) → run (drawPlan f n x p scale) ≡ accepted v → v ≡ pointsOf f n x (product (factorOf f PIVOT p n)) (rootOf f scale)
+  draw-makes n x p scale v e = ran-made (drawPlan f n x p scale) v e
+
+  -- point 0 is x, point j+1 is x[i] + s·L[i][j], point j+1+n is x[i] − s·L[i][j]
+  module _ (n : ℕ) (x l : List Float) (s : Float) (h : n ≤ 8) (i : ℕ) (g : i < n) where
+    pub point-at-0 : at (pointsOf f n x l s) (0 * n + i) ≡ at x i
+    point-at-0 = drawn-filled f n x l s h .cell 0 i (omega arith) g ∙ point-first f n x l s i
+
+    pub point-at-plus : (j : ℕ) → j < n → at (pointsOf f n x l s) ((j + 1) * n + i) ≡ add f (at x i) (mul f s (at l (i * n + j)))
+    point-at-plus j k =
+        let e : j + 1 - 1 ≡ j = omega arith in
+        drawn-filled f n x l s h .cell (j + 1) i (omega arith) g ∙ point-plus f n x l s (j + 1) i (omega arith) (omega arith) ∙ ap (λ (c : ℕ). add f (at x i) (mul f s (at l (i * n + c)))) e
+
+    pub point-at-minus : (j : ℕ) → j < n → at (pointsOf f n x l s) ((j + 1 + n) * n + i) ≡ sub f (at x i) (mul f s (at l (i * n + j)))
+    point-at-minus j k =
+        let e : j + 1 + n - 1 - n ≡ j = omega arith in
+        drawn-filled f n x l s h .cell (j + 1 + n) i (omega arith) g ∙ point-minus f n x l s (j + 1 + n) i (omega arith) ∙ ap (λ (c : ℕ). sub f (at x i) (mul f s (at l (i * n + c)))) e
+
+  -- ---- Anchored mean: `anchored_mean` (crate sigma) is `meanOf`
+
+  -- weightsum·point0 + offset, over the points 1 to t, t being 2n
+  pub mean-at : (p : List Float) (d t : ℕ) (w0m : Float) (w : List Float) (kinds : List Kind) → d ≤ 8 → (i : ℕ) → i < d
+      → at (meanOf f p d t w0m w kinds) i
+      ≡ add f (mul f (totalOf (add f) w0m (λ (k : ℕ). at w (k + 1)) t) (at p i))
+      (totalOf (add f) plusZero (λ (k : ℕ). mul f (at w (k + 1)) (throughOf f (getD kinds i plain) (sub f (at p ((k + 1) * d + i)) (at p i)))) t)
+  mean-at p d t w0m w kinds h = mean-placed f p d t w0m w kinds h .place
+
+  -- ---- Covariance, S and the cross covariance: `deviations` and `spread` (crate sigma) are `deviationsOf` and `spreadOf`; `plus` (crate matrix) is `plusOf`
+
+  -- point minus mean through the kinds
+  pub deviation-at : (p : List Float) (d t : ℕ) (mean : List Float) (kinds : List Kind) → t < 17 → d ≤ 8 → (k i : ℕ) → k < t + 1 → i < d
+      → at (deviationsOf f p d t mean kinds) (k * d + i) ≡ throughOf f (getD kinds i plain) (sub f (at p (k * d + i)) (at mean i))
+  deviation-at p d t mean kinds g h = deviations-filled f p d t mean kinds g h .cell
+
+  -- from +0, for each k, add w·a[i]·b[j]: each entry for itself
+  pub spread-at : (a : List Float) (da : ℕ) (b : List Float) (db : ℕ) (w : List Float) (t : ℕ) → da ≤ 8 → db ≤ 8 → (i j : ℕ) → i < da → j < db
+      → at (spreadOf f a da b db w t) (i * db + j) ≡ totalOf (add f) plusZero (λ (k : ℕ). mul f (mul f (at w k) (at a (k * da + i))) (at b (k * db + j))) (t + 1)
+  spread-at a da b db w t g h = spread-filled f a da b db w t g h .cell
+
+  -- then Q + P, and R + S
+  pub plus-at : (n : ℕ) (q p : List Float) → n ≤ 8 → (i : ℕ) → i < n * n → at (plusOf f (n * n) q p) i ≡ add f (at q i) (at p i)
+  plus-at n q p h = plus-placed f (n * n) q p (mul-le-mul h h) .place
+
+  -- `reconstruct_prediction` (crate sigma) is `predictPlan`, run: accepted, it has made the mean, and Q + P
+  pub prediction-makes : (n : ℕ) (points : List Float) (w0m : Float) (w : List Float) (kinds : List Kind) (q : List Float) (m : Moment) → run (predictPlan f n points w0m w kinds q) ≡ accepted m
+      → m ≡ (let mean = meanOf f points n (n + n) w0m w kinds in let dx = deviationsOf f points n (n + n) mean kinds in record { x = mean; p = plusOf f (n * n) q (spreadOf f dx n dx n w (n + n)) })
+  prediction-makes n points w0m w kinds q m e = ran-made (predictPlan f n points w0m w kinds q) m e
+
+  -- ---- Inverse: `invert_l_cholesky` (crate matrix) is `inverseOf`
+
+  module _ (l : List Float) (m : ℕ) (h : m ≤ 8) (i c : ℕ) (g : i < m) where
+    -- u[i] = (1 if i = c, else 0, minus L[i][k]·u[k] for k below i in turn)/L[i][i], u being `forwardOf`
+    pub inverse-forward : at (forwardOf f l m c) i ≡ div f (totalOf (sub f) (unitAt f c i) (λ (k : ℕ). mul f (at l (i * m + k)) (at (forwardOf f l m c) k)) i) (at l (i * m + i))
+    inverse-forward = forward-at f l m h c i g
+
+    -- then from the last i down, v[i] = (u[i] minus L[k][i]·v[k] for k = i+1 upward)/L[i][i], v being column c of the inverse
+    pub inverse-entry : c < m
+        → at (inverseOf f l m) (i * m + c)
+        ≡ div f (totalOf (sub f) (at (forwardOf f l m c) i) (λ (k : ℕ). mul f (at l ((i + 1 + k) * m + i)) (at (inverseOf f l m) ((i + 1 + k) * m + c))) (m - (i + 1))) (at l (i * m + i))
+    inverse-entry k =
+        inverse-at f l m h i c g k
+        ∙ ap (λ (t : Float). div f t (at l (i * m + i)))
+        (total-same (sub f) (at (forwardOf f l m c) i) _ _ (m - (i + 1)) (λ j q. ap (mul f (at l ((i + 1 + j) * m + i))) (sym (inverse-filled f l m h .cell (i + 1 + j) c (omega arith) k))))
+
+  -- ---- Gain and T: `mult_transb` (crate matrix) is `transbOf`
+
+  -- K[i][j] = sum of C[i][k]·V[j][k]; T[i][j] = sum of C[i][k]·K[j][k]
+  pub transb-at : (a b : List Float) (d n m : ℕ) → n ≤ 8 → m ≤ 8 → (i j : ℕ) → i < n → j < m
+      → at (transbOf f a b d n m) (i * m + j) ≡ totalOf (add f) plusZero (λ (k : ℕ). mul f (at a (i * d + k)) (at b (j * d + k))) d
+  transb-at a b d n m g h = transb-filled f a b d n m g h .cell
+
+  -- ---- y, x and P: `innovation` and `shifted` (crate correction) are `innovationOf` and `shiftedOf`; `minus` (crate matrix) is `minusOf`
+
+  -- y = z − z mean, through the measurement kinds
+  pub innovation-at : (m : ℕ) (z mean : List Float) (kinds : List Kind) → m ≤ 8 → (j : ℕ) → j < m → at (innovationOf f m z mean kinds) j ≡ throughOf f (getD kinds j plain) (sub f (at z j) (at mean j))
+  innovation-at m z mean kinds h = placed (innovationAt f z mean kinds) m 8 h .place
+
+  -- x[i] = x[i] + sum of K[i][j]·y[j]
+  pub shifted-at : (n m : ℕ) (x k y : List Float) → n ≤ 8 → (i : ℕ) → i < n → at (shiftedOf f n m x k y) i ≡ add f (at x i) (totalOf (add f) plusZero (λ (j : ℕ). mul f (at k (i * m + j)) (at y j)) m)
+  shifted-at n m x k y h i g =
+      placed (shiftedAt f m x k y) n 8 h .place i g
+      ∙ ap (add f (at x i)) (total-same (add f) plusZero (productAt f k (i * m) y 0) _ m (λ j l. let e : 0 + j ≡ j = omega arith in ap (λ (c : ℕ). mul f (at k (i * m + j)) (at y c)) e))
+
+  -- P = P − T
+  pub minus-at : (n : ℕ) (p t : List Float) → n ≤ 8 → (i : ℕ) → i < n * n → at (minusOf f (n * n) p t) i ≡ sub f (at p i) (at t i)
+  minus-at n p t h = minus-placed f (n * n) p t (mul-le-mul h h) .place
+
+  -- `correct_with_weights_residuals` (crate correction) is `correctPlan`, run: accepted, it has made the x and P at the end of the chain that specs/Listed.antt writes out
+  pub correction-makes : (g : Given) (m : Moment) → run (correctPlan f g) ≡ accepted m → m ≡ record { x = state f g; p = covariance f g }
+  correction-makes g m e = ran-made (correctPlan f g) m e
+
+-- ---- the calls: every method of `Filter` (crate filter) is `step`, by the table in filter/specs/Calls.antt: which of these plans a call runs, on what, and what it installs

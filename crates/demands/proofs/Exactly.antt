@@ -1,0 +1,326 @@
+-- Exactly when: a number is given just where it is due, and a call is taken just where no row of the table applies.
+-- No law here goes by the calls: each row is one law over what is asked. Assumes nothing.
+use Prim.Native.Nat.{ℕ, zero, suc, _≤_, _<_}
+use mathlib.Core.Path.{_≡_, refl, sym, ap, _∙_, subst}
+use mathlib.Core.Bool.{Bool, true, false, not}
+use mathlib.Core.List.{List, [], _∷_}
+use mathlib.Core.Logic.{_↔_, _≢_, _⊎_, inl, inr, ⊎-elim}
+use native.Mathlib.Omega.{arith}
+use lib.Ieee.{Float, Format, add}
+use lib.Ieee.Scale.{finite}
+use Rattle.floats.specs.Refusal.{Refusal, SIZE, SHORT, STAGE, STALE, NUMBER, PARAM, PIVOT, INNOV, RANGE, number, Outcome, refused, accepted, refusal, or, unless}
+use Rattle.floats.specs.Numbers.{plusZero, allFinite}
+use Rattle.floats.specs.Fronts.{over}
+use Rattle.angles.specs.Wrap.{wrapOf, wrapStep, halfTurn}
+use Rattle.angles.specs.Kinds.{numbersIn, passes, kindOf}
+use Rattle.angles.specs.declared.Kind.{Kind}
+use Rattle.matrix.specs.Results.{Result, good, First, now, later, Plan, run, planned}
+use Rattle.matrix.proofs.Flat.{split}
+use Rattle.floats.proofs.Refusals.{number-above}
+use Rattle.matrix.proofs.Results.{plan-refused}
+use Rattle.sigma.specs.declared.Params.{Params}
+use Rattle.filter.specs.declared.Filter.{Filter}
+use Rattle.filter.specs.Asked.{Asks, within, long, fit, every, guarded}
+use Rattle.filter.specs.Filters.{seen}
+use Rattle.filter.specs.Calls.{Call, asks, Done, plan}
+use Rattle.filter.specs.Steps.{outcome, stepped, step, paramsOf, paramsRead, staleRead}
+use Rattle.filter.specs.New.{empty, newAsks, newOf, newAnswer}
+use Rattle.filter.specs.Point.{pointAsks, pointAt, pointRefusal, pointOf}
+use Rattle.demands.specs.Rows.{Some, here, there, NotFinite, NotAbove, OutOfRange, Shorter, UnfitTurn, Unfit, FirstFails, Cause, stage, size, short, stale, met, gives, Applies, place, Due}
+use Rattle.demands.specs.Rows as Row
+use Rattle.demands.proofs.Rows.{Means, itself, turned, reworded, none, parted, some, ranged, lent-long, all-finite, fitting, half-turn, turn, well}
+
+-- ---- the number gives back its refusal
+
+named : ℕ → Refusal
+named zero = RANGE
+named (suc zero) = SIZE
+named (suc (suc zero)) = SHORT
+named (suc (suc (suc zero))) = STAGE
+named (suc (suc (suc (suc zero)))) = STALE
+named (suc (suc (suc (suc (suc zero))))) = NUMBER
+named (suc (suc (suc (suc (suc (suc zero)))))) = PARAM
+named (suc (suc (suc (suc (suc (suc (suc zero))))))) = PIVOT
+named (suc (suc (suc (suc (suc (suc (suc (suc zero)))))))) = INNOV
+named (suc (suc (suc (suc (suc (suc (suc (suc (suc n))))))))) = RANGE
+
+named-number : (r : Refusal) → named (number r) ≡ r
+unfolding named
+named-number SIZE = refl
+named-number SHORT = refl
+named-number STAGE = refl
+named-number STALE = refl
+named-number NUMBER = refl
+named-number PARAM = refl
+named-number PIVOT = refl
+named-number INNOV = refl
+named-number RANGE = refl
+
+pub number-same : {q r : Refusal} → number q ≡ number r → q ≡ r
+number-same {q} {r} e = sym (named-number q) ∙ ap named e ∙ named-number r
+
+-- ---- the results of the steps
+
+-- the first that fails, by the tests and in words
+first-words : {r : Refusal} {vs : List Result} → First r vs → FirstFails r vs
+first-words (now {v = v} h) = Row.now (well v .fails h)
+first-words (later {v = v} h w) = Row.later (λ b. well v .passes h b) (first-words w)
+
+first-tests : {r : Refusal} {vs : List Result} → FirstFails r vs → First r vs
+first-tests (Row.now {v = v} b) = now (by-fails (good v) refl)
+  where
+    by-fails : (t : Bool) → good v ≡ t → good v ≡ false
+    by-fails true h = absurd (well v .passes h b)
+    by-fails false h = h
+first-tests (Row.later {v = v} n w) = later (by-passes (good v) refl) (first-tests w)
+  where
+    by-passes : (t : Bool) → good v ≡ t → good v ≡ true
+    by-passes true h = h
+    by-passes false h = absurd (n (well v .fails h))
+
+-- one result is the first
+one-first : {q r : Refusal} {vs : List Result} → FirstFails q vs → FirstFails r vs → q ≡ r
+one-first (Row.now b) (Row.now d) = refl
+one-first (Row.now b) (Row.later n w) = absurd (n b)
+one-first (Row.later n w) (Row.now b) = absurd (n b)
+one-first (Row.later n w) (Row.later m u) = one-first w u
+
+no-first : (r : Refusal) → FirstFails r [] → ⊥
+no-first r w = elim w [ ]
+
+-- an outcome that is the results' own: refused by the first that fails, accepted where none does
+abbrev pub Ends : {A : Type 0} → List Result → Outcome A → Type 0
+Ends vs (refused r) = FirstFails r vs
+Ends vs (accepted a) = (r : Refusal) → FirstFails r vs → ⊥
+
+module _ {A : Type 0} where
+  pub plan-ends : (p : Plan A) → Ends (planned p) (run p)
+  plan-ends p = go (run p) refl
+    where
+      accepted-never : {r : Refusal} {a : A} → accepted a ≡ refused r → ⊥
+      accepted-never e = let z : _≡_ {A = ℕ} 0 1 = cc in omega arith
+
+      go : (o : Outcome A) → run p ≡ o → Ends (planned p) o
+      go (refused r) e = first-words (plan-refused p r .0 e)
+      go (accepted a) e = λ r w. accepted-never (sym e ∙ plan-refused p r .1 (first-tests w))
+
+-- ---- the order
+
+cmp : (a b : ℕ) → (a < b) ⊎ ((a ≡ b) ⊎ (b < a))
+cmp a b = ⊎-elim (λ l. inl l) (λ g. inr (⊎-elim (λ l. inr l) (λ h. inl (omega arith)) (split b a))) (split a b)
+
+-- the rows before the steps have a place each
+nth : ℕ → Cause
+nth zero = stage
+nth (suc zero) = size
+nth (suc (suc zero)) = short
+nth (suc (suc (suc zero))) = stale
+nth (suc (suc (suc (suc zero)))) = Row.number
+nth (suc (suc (suc (suc (suc n))))) = Row.param
+
+nth-place : (c : Cause) → place c < 6 → nth (place c) ≡ c
+unfolding nth
+nth-place stage h = refl
+nth-place size h = refl
+nth-place short h = refl
+nth-place stale h = refl
+nth-place Row.number h = refl
+nth-place Row.param h = refl
+nth-place (met r) h = absurd (omega arith)
+
+same-place : (c d : Cause) → place d < 6 → place c ≡ place d → c ≡ d
+same-place c d h e = sym (nth-place c (omega arith)) ∙ ap nth e ∙ nth-place d h
+
+module _ (f : Format) (a : Asks) (vs : List Result) where
+  late : (c : Cause) → 6 ≤ place c → Applies f a vs c → FirstFails (gives c) vs
+  late stage h w = absurd (omega arith)
+  late size h w = absurd (omega arith)
+  late short h w = absurd (omega arith)
+  late stale h w = absurd (omega arith)
+  late Row.number h w = absurd (omega arith)
+  late Row.param h w = absurd (omega arith)
+  late (met r) h w = w
+
+  -- two rows that apply at one place give one number
+  one-row : (c d : Cause) → place c ≡ place d → Applies f a vs c → Applies f a vs d → gives c ≡ gives d
+  one-row c d e x y = ⊎-elim (λ l. ap gives (same-place c d l e)) (λ g. one-first (late c (omega arith) x) (late d g y)) (split (place d) 6)
+
+  -- a right outcome for the rows from place k on
+  abbrev Right : {A : Type 0} → ℕ → Outcome A → Type 0
+  Right k (refused r) = (c : Cause) × (gives c ≡ r) × (k ≤ place c) × Applies f a vs c × ((d : Cause) → k ≤ place d → place d < place c → Applies f a vs d → ⊥)
+  Right k (accepted x) = (d : Cause) → k ≤ place d → Applies f a vs d → ⊥
+
+  module _ {A : Type 0} where
+    -- a test in front
+    layer : (t : Bool) (c : Cause) (o : Outcome A) → place c < 6 → Means t (Applies f a vs c) → Right (suc (place c)) o → Right (place c) (unless t (gives c) o)
+    layer false c o h m i = (c, refl, omega arith, m .fails refl, λ d g l x. absurd (omega arith))
+    layer true c (refused r) h m i =
+        (i .0, i .1, omega (arith, i .2), i .3, λ d g l x. ⊎-elim (λ u. absurd (omega arith)) (λ e. ⊎-elim (λ s. m .passes refl (subst (Applies f a vs) (same-place d c h s) x)) (λ u. i .4 d (omega arith) l x) e) (cmp (place d) (place c)))
+    layer true c (accepted y) h m i =
+        λ d g x. ⊎-elim (λ u. absurd (omega arith)) (λ e. ⊎-elim (λ s. m .passes refl (subst (Applies f a vs) (same-place d c h s) x)) (λ u. i d (omega arith) x) e) (cmp (place d) (place c))
+
+    steps-right : (o : Outcome A) → Ends vs o → Right 6 o
+    steps-right (refused r) i = (met r, refl, omega arith, i, λ d g l x. absurd (omega arith))
+    steps-right (accepted y) i = λ d g x. i (gives d) (late d g x)
+
+    right : (o : Outcome A) → Ends vs o → Right 0 (guarded f a o)
+    unfolding guarded
+    right o i =
+        layer (a .fits) stage _ (omega arith) (itself (a .fits))
+        (layer (every within (a .sizes)) size _ (omega arith) (some within OutOfRange ranged (a .sizes))
+        (layer (every long (a .lent)) short _ (omega arith) (some long Shorter lent-long (a .lent))
+        (layer (not (a .stale)) stale _ (omega arith) (turned (a .stale))
+        (layer (allFinite (a .inputs)) Row.number _ (omega arith) (all-finite (a .inputs))
+        (layer (every (fit f) (a .params)) Row.param _ (omega arith) (some (fit f) (Unfit f) (fitting f) (a .params))
+        (steps-right o i))))))
+
+    due : (o : Outcome A) (r : Refusal) → Right 0 o → refusal o ≡ number r → Due f a vs r
+    due (refused q) r i e = record { cause = i .0; gives-it = i .1 ∙ number-same e; applies = i .3; no-earlier = λ c l x. i .4 c (omega arith) l x }
+    due (accepted y) r i e = absurd (omega (arith, number-above r))
+
+    due-given : (o : Outcome A) (r : Refusal) → Right 0 o → Due f a vs r → refusal o ≡ number r
+    due-given (refused q) r i d =
+        ⊎-elim (λ l. absurd (d .no-earlier (i .0) l (i .3)))
+        (λ g. ⊎-elim (λ e. ap number (sym (i .1) ∙ one-row (i .0) (d .cause) e (i .3) (d .applies) ∙ d .gives-it)) (λ l. absurd (i .4 (d .cause) (omega arith) l (d .applies))) g)
+        (cmp (place (i .0)) (place (d .cause)))
+    due-given (accepted y) r i d = absurd (i (d .cause) (omega arith) (d .applies))
+
+    free : (o : Outcome A) → Right 0 o → refusal o ≡ 0 → (c : Cause) → Applies f a vs c → ⊥
+    free (refused q) i e c x = omega (arith, number-above q)
+    free (accepted y) i e c x = i c (omega arith) x
+
+    free-taken : (o : Outcome A) → Right 0 o → ((c : Cause) → Applies f a vs c → ⊥) → refusal o ≡ 0
+    free-taken (refused q) i n = absurd (n (i .0) (i .3))
+    free-taken (accepted y) i n = refl
+
+    -- WHAT IS ASKED AND THE STEPS' OWN OUTCOME o COME TO r JUST WHERE r IS DUE,
+    pub guarded-exactly : (o : Outcome A) → Ends vs o → (r : Refusal) → (refusal (guarded f a o) ≡ number r) ↔ Due f a vs r
+    guarded-exactly o i r = (due (guarded f a o) r (right o i), due-given (guarded f a o) r (right o i))
+
+    -- and are accepted just where no row applies
+    pub guarded-taken : (o : Outcome A) → Ends vs o → (refusal (guarded f a o) ≡ 0) ↔ ((c : Cause) → Applies f a vs c → ⊥)
+    guarded-taken o i = (free (guarded f a o) (right o i), free-taken (guarded f a o) (right o i))
+
+-- ---- EXACTLY WHEN: every call, New, and point k of a list
+
+stepped-number : (s : Filter) (o : Outcome Done) → stepped s o .reply .refusal ≡ refusal o
+stepped-number s (refused r) = refl
+stepped-number s (accepted d) = refl
+
+module _ (f : Format) where
+  module _ (s : Filter) (c : Call) where
+    step-number : step f s c .reply .refusal ≡ refusal (outcome f (seen s) c)
+    unfolding step
+    step-number = stepped-number s (outcome f (seen s) c)
+
+    pub exactly : (r : Refusal) → (step f s c .reply .refusal ≡ number r) ↔ Due f (asks (seen s) c) (planned (plan f (seen s) c)) r
+    exactly r = rw step-number (guarded-exactly f (asks (seen s) c) (planned (plan f (seen s) c)) (run (plan f (seen s) c)) (plan-ends (plan f (seen s) c)) r)
+
+    pub taken-exactly : (step f s c .reply .refusal ≡ 0) ↔ ((d : Cause) → Applies f (asks (seen s) c) (planned (plan f (seen s) c)) d → ⊥)
+    taken-exactly = rw step-number (guarded-taken f (asks (seen s) c) (planned (plan f (seen s) c)) (run (plan f (seen s) c)) (plan-ends (plan f (seen s) c)))
+
+  module _ (n : ℕ) (x p q : List Float) (params : Params) where
+    pub new-exactly : (r : Refusal) → (newAnswer f n x p q params .refusal ≡ number r) ↔ Due f (newAsks f n x p q params) [] r
+    unfolding newOf
+    new-exactly r = guarded-exactly f (newAsks f n x p q params) [] (accepted _) no-first r
+
+    pub new-taken : (newAnswer f n x p q params .refusal ≡ 0) ↔ ((c : Cause) → Applies f (newAsks f n x p q params) [] c → ⊥)
+    unfolding newOf
+    new-taken = guarded-taken f (newAsks f n x p q params) [] (accepted _) no-first
+
+  module _ (l : List Float) (n k : ℕ) where
+    pub point-exactly : (r : Refusal) → (pointRefusal f l n k ≡ number r) ↔ Due f (pointAsks f l n k) [] r
+    unfolding pointRefusal
+    point-exactly r = guarded-exactly f (pointAsks f l n k) [] (accepted _) no-first r
+
+    pub point-taken : (pointRefusal f l n k ≡ 0) ↔ ((c : Cause) → Applies f (pointAsks f l n k) [] c → ⊥)
+    unfolding pointRefusal
+    point-taken = guarded-taken f (pointAsks f l n k) [] (accepted _) no-first
+
+-- ---- the wrap that callers may use, and the check of a kind: 5, then 6
+
+module _ {A : Type 0} (x : A) {Bad Unfit : Type 0} where
+  -- an outcome of two tests
+  two-tests : (t u : Bool) → Means t Bad → Means u Unfit → (r : Refusal)
+      → (refusal (unless t NUMBER (unless u PARAM (accepted x))) ≡ number r) ↔ (((r ≡ NUMBER) × Bad) ⊎ ((r ≡ PARAM) × (Bad → ⊥) × Unfit))
+  two-tests true true m n r =
+      (λ e. absurd (omega (arith, number-above r)), ⊎-elim (λ w. absurd (m .passes refl (w .1))) (λ w. absurd (n .passes refl (w .2))))
+  two-tests true false m n r =
+      (λ e. inr (number-same (sym e), λ b. m .passes refl b, n .fails refl), ⊎-elim (λ w. absurd (m .passes refl (w .1))) (λ w. ap number (sym (w .0))))
+  two-tests false u m n r =
+      (λ e. inl (number-same (sym e), m .fails refl), ⊎-elim (λ w. ap number (sym (w .0))) (λ w. absurd (w .1 (m .fails refl))))
+
+  two-taken : (t u : Bool) → Means t Bad → Means u Unfit → (refusal (unless t NUMBER (unless u PARAM (accepted x))) ≡ 0) ↔ ((Bad → ⊥) × (Unfit → ⊥))
+  two-taken true true m n = (λ e. (λ b. m .passes refl b, λ b. n .passes refl b), λ w. refl)
+  two-taken true false m n = (λ e. absurd (omega arith), λ w. absurd (w .1 (n .fails refl)))
+  two-taken false u m n = (λ e. absurd (omega arith), λ w. absurd (w .0 (m .fails refl)))
+
+module _ (f : Format) where
+  module _ (d h : Float) where
+    both-finite : Means (allFinite (d ∷ h ∷ [])) (NotFinite d ⊎ NotFinite h)
+    both-finite = reworded (λ w. ⊎-elim (λ b. inl b) (λ s. inr (last s)) (parted w)) (⊎-elim (λ b. here b) (λ b. there (here b))) (all-finite (d ∷ h ∷ []))
+      where
+        last : Some NotFinite (h ∷ []) → NotFinite h
+        last s = ⊎-elim (λ b. b) (λ w. absurd (none w)) (parted s)
+
+    -- the wrap is refused by 5 just where d or h isn't finite, by 6 just where both are and h isn't above 0 or 2h isn't finite, and by nothing else
+    pub wrap-exactly : (r : Refusal)
+        → (refusal (wrapOf f d h) ≡ number r) ↔ (((r ≡ NUMBER) × (NotFinite d ⊎ NotFinite h)) ⊎ ((r ≡ PARAM) × (NotFinite d ⊎ NotFinite h → ⊥) × (NotAbove h ⊎ NotFinite (add f h h))))
+    unfolding wrapOf
+    wrap-exactly r = two-tests (wrapStep f d h) (allFinite (d ∷ h ∷ [])) (halfTurn f h) both-finite (half-turn f h) r
+
+    pub wrap-taken : (refusal (wrapOf f d h) ≡ 0) ↔ ((NotFinite d ⊎ NotFinite h → ⊥) × (NotAbove h ⊎ NotFinite (add f h h) → ⊥))
+    unfolding wrapOf
+    wrap-taken = two-taken (wrapStep f d h) (allFinite (d ∷ h ∷ [])) (halfTurn f h) both-finite (half-turn f h)
+
+  module _ (k : Kind) where
+    -- a kind is refused by 5 just where its half-turn isn't finite, by 6 just where it is and doesn't pass, and by nothing else
+    pub kind-exactly : (r : Refusal)
+        → (refusal (kindOf f k) ≡ number r) ↔ (((r ≡ NUMBER) × Some NotFinite (numbersIn (k .residual))) ⊎ ((r ≡ PARAM) × (Some NotFinite (numbersIn (k .residual)) → ⊥) × UnfitTurn f (k .residual)))
+    kind-exactly r = two-tests k (allFinite (numbersIn (k .residual))) (passes f (k .residual)) (all-finite (numbersIn (k .residual))) (turn f (k .residual)) r
+
+    pub kind-taken : (refusal (kindOf f k) ≡ 0) ↔ ((Some NotFinite (numbersIn (k .residual)) → ⊥) × (UnfitTurn f (k .residual) → ⊥))
+    kind-taken = two-taken k (allFinite (numbersIn (k .residual))) (passes f (k .residual)) (all-finite (numbersIn (k .residual))) (turn f (k .residual))
+
+-- ---- a result or one of the nine; and what is refused changes nothing and hands out nothing
+
+one-of : {A : Type 0} (o : Outcome A) → (refusal o ≡ 0) ⊎ ((r : Refusal) × (refusal o ≡ number r))
+one-of (refused r) = inr (r, refl)
+one-of (accepted a) = inl refl
+
+unchanged : (s : Filter) (o : Outcome Done) → stepped s o .reply .refusal ≢ 0 → (stepped s o .filter ≡ s) × (stepped s o .reply .given ≡ []) × (stepped s o .reply .stale ≡ true)
+unchanged s (refused r) h = (refl, refl, refl)
+unchanged s (accepted d) h = absurd (h refl)
+
+module _ (f : Format) (s : Filter) (c : Call) where
+  pub ends-so : (step f s c .reply .refusal ≡ 0) ⊎ ((r : Refusal) × (step f s c .reply .refusal ≡ number r))
+  ends-so = rw (step-number f s c) (one-of (outcome f (seen s) c))
+
+  pub refused-nothing : step f s c .reply .refusal ≢ 0 → (step f s c .filter ≡ s) × (step f s c .reply .given ≡ []) × (step f s c .reply .stale ≡ true)
+  unfolding step
+  refused-nothing h = unchanged s (outcome f (seen s) c) h
+
+  -- `over .. b` is what stands in a lent buffer b afterwards
+  pub refused-unwritten : step f s c .reply .refusal ≢ 0 → (step f s c .filter ≡ s) × ((b : List Float) → over (step f s c .reply .given) b ≡ b)
+  refused-unwritten h = let n = refused-nothing h in (n .0, λ b. ap (λ (w : List Float). over w b) (n .1))
+
+  -- a refused reading of values answers +0, and stale
+  pub refused-values : step f s c .reply .refusal ≢ 0 → (paramsRead (step f s c .reply) .params ≡ record { alpha = plusZero; beta = plusZero; kappa = plusZero }) × (staleRead (step f s c .reply) .stale ≡ true)
+  refused-values h = let n = refused-nothing h in (ap paramsOf (n .1), n .2)
+
+-- a refused New gives the empty filter
+pub new-refused : (f : Format) (n : ℕ) (x p q : List Float) (params : Params) → newAnswer f n x p q params .refusal ≢ 0 → newAnswer f n x p q params .filter ≡ empty
+new-refused f n x p q params = go (newOf f n x p q params)
+  where
+    go : (o : Outcome Filter) → refusal o ≢ 0 → or empty o ≡ empty
+    go (refused r) h = refl
+    go (accepted s) h = absurd (h refl)
+
+-- a refused point is an empty part
+pub point-refused : (f : Format) (l : List Float) (n k : ℕ) → pointRefusal f l n k ≢ 0 → pointOf f l n k ≡ []
+unfolding pointRefusal pointOf
+point-refused f l n k = go (pointAt f l n k)
+  where
+    go : (o : Outcome (List Float)) → refusal o ≢ 0 → or [] o ≡ []
+    go (refused r) h = refl
+    go (accepted v) h = absurd (h refl)

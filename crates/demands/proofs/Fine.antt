@@ -1,0 +1,192 @@
+-- Each call that is taken on a sound filter installs what is right and hands out finite numbers: a line for each call. Assumes nothing.
+use Prim.Native.Nat.{ℕ, _+_, _*_, _≤_}
+use mathlib.Core.Path.{_≡_, refl, sym, _∙_}
+use mathlib.Core.Bool.{Bool, true, false, cond}
+use mathlib.Core.List.{List, [], _∷_}
+use native.Mathlib.Nat.{mul-le-mul}
+use native.Mathlib.Omega.{arith}
+use borrow.Author.Tests.{leb-true}
+use lib.Dec.{leb, eqb}
+use lib.ListN.{length, length-set}
+use lib.Ieee.{Float, Format}
+use lib.Ieee.Scale.{finite}
+use Rattle.floats.specs.Numbers.{zeros, allFinite, aboveZero}
+use Rattle.floats.specs.Fronts.{front}
+use Rattle.floats.proofs.Finite.{all-zeros}
+use Rattle.angles.specs.declared.Kind.{Kind}
+use Rattle.matrix.proofs.Cells.{length-zeros, length-places}
+use Rattle.sigma.specs.declared.Params.{Params}
+use Rattle.sigma.specs.Weights.{scaleOf, w0mOf, w0cOf, wiOf, weightAt, weightsOf, weightsPass}
+use Rattle.sigma.specs.Draw.{pointNumbers, pointAt, drawPlan}
+use Rattle.sigma.specs.Predict.{Moment, predictPlan}
+use Rattle.correction.specs.Correct.{Given, correctPlan}
+use Rattle.filter.specs.declared.Filter.{Filter}
+use Rattle.filter.specs.declared.Stage.{Stage}
+use Rattle.filter.specs.declared.Stage.the-variants.{Shut, Predicting, Correcting}
+use Rattle.filter.specs.declared.Weighted.{Weighted}
+use Rattle.filter.specs.Asked.{fit, by-params, by-kind, inRange, every}
+use Rattle.filter.specs.Filters.{isShut, isPredicting, isCorrecting, seen, Setting, x-set, p-set, q-set, params-set, kinds-set, opened-prediction, opened-correction, Closing, Change, sets, closes, abandons, reads}
+use Rattle.filter.specs.Calls.{set-x, set-p, set-q, set-params, set-kind, open-prediction, open-correction, close-prediction, close-correction, read-x, read-p, read-q, read-points, read-params, read-stale, Call, setting, closing, abandon, reading, inKinds, asKinds, asks, Done, opened, closed, draws, plan}
+use Rattle.demands.specs.Listed.{measured}
+use Rattle.demands.specs.Sound.{Filled, Sound}
+use Rattle.demands.proofs.Passed.{both, Passed, Ran, ran-finish, ran-after, ran-listed, ran-either, ran-mapped}
+use Rattle.demands.proofs.Listed.{drawing, predicting, correcting}
+use Rattle.demands.proofs.Arrays.{all-places, filled-places, filled-rows, filled-front, kinds-finite, kinds-fit}
+
+-- ---- what a change installs is right for the filter
+
+-- weights and points: 17 finite numbers, and 2n+1 finite points
+pub record Laid (n : ℕ) (w : Weighted) : Type 0 where
+  pub count : length (w .weights) ≡ 17
+  pub weights : allFinite (w .weights) ≡ true
+  pub points : Filled (pointNumbers n) 136 (w .points)
+
+module _ (f : Format) (n : ℕ) where
+  abbrev pub FineSetting : Setting → Type 0
+  FineSetting (x-set v) = Filled n 8 v
+  FineSetting (p-set v) = Filled (n * n) 64 v
+  FineSetting (q-set v) = Filled (n * n) 64 v
+  FineSetting (params-set v) = (allFinite (v .alpha ∷ v .beta ∷ v .kappa ∷ []) ≡ true) × (weightsPass f n v ≡ true)
+  FineSetting (kinds-set v) = (allFinite (inKinds v) ≡ true) × (every (fit f) (asKinds v) ≡ true) × (length v ≡ 8)
+  FineSetting (opened-prediction d) = Laid n d
+  FineSetting (opened-correction d) = Laid n d
+
+  abbrev pub FineClosing : Closing → Type 0
+  FineClosing c = Filled n 8 (c .x) × Filled (n * n) 64 (c .p) × Laid n (c .installed)
+
+  abbrev pub Fine : Change → Type 0
+  Fine (sets c) = FineSetting c
+  Fine (closes c) = FineClosing c
+  Fine abandons = Unit {0}
+  Fine reads = Unit {0}
+
+  pub record FineDone (d : Done) : Type 0 where
+    pub change : Fine (d .change)
+    pub given : allFinite (d .given) ≡ true
+
+-- ---- sizes and stages
+
+pub in-range : (from to n : ℕ) → inRange from to n ≡ true → (from ≤ n) × (n ≤ to)
+unfolding inRange
+in-range from to n h = let p = both {a = leb from n} h in (leb-true from n (p .0), leb-true n to (p .1))
+
+pub points-room : (n : ℕ) → n ≤ 8 → pointNumbers n ≤ 136
+points-room n h = let k : n + n + 1 ≤ 17 = omega arith in mul-le-mul k h
+
+pub square-room : (n : ℕ) → n ≤ 8 → n * n ≤ 64
+square-room n h = mul-le-mul h h
+
+predicting-open : (t : Stage) → isPredicting t ≡ true → isShut t ≡ false
+predicting-open Shut h = sym h
+predicting-open Predicting h = refl
+predicting-open Correcting h = refl
+
+correcting-open : (t : Stage) → isCorrecting t ≡ true → isShut t ≡ false
+correcting-open Shut h = sym h
+correcting-open Predicting h = refl
+correcting-open Correcting h = refl
+
+-- ---- the steps
+
+module _ (f : Format) where
+  module _ (n : ℕ) (p : Params) (h : weightsPass f n p ≡ true) where
+    weights-bounded : (finite (w0cOf f n p) ≡ true) × (finite (wiOf f n p) ≡ true)
+    unfolding weightsPass allFinite
+    weights-bounded =
+        let a = both {a = aboveZero (scaleOf f n p)} h .1 in
+        let b = both {a = finite (w0mOf f n p)} a .1 in
+        let c = both {a = finite (w0cOf f n p)} b in
+        (c .0, both {a = finite (wiOf f n p)} (c .1) .0)
+
+    weight-finite : (k : ℕ) → finite (weightAt f n p k) ≡ true
+    weight-finite k = go (eqb k 0)
+      where
+        go : (t : Bool) → finite (cond t (w0cOf f n p) (wiOf f n p)) ≡ true
+        go true = weights-bounded .0
+        go false = weights-bounded .1
+
+    laid-weights : (points : List Float) → Filled (pointNumbers n) 136 points → Laid n (record { weights = weightsOf f n p; points = points })
+    laid-weights points a = record {
+      count = length-places (weightAt f n p) (n + n + 1) (zeros 17) ∙ length-zeros 17;
+      weights = all-places (weightAt f n p) weight-finite (n + n + 1) (zeros 17) (all-zeros 17);
+      points = a;
+    }
+
+  draw-filled : (n : ℕ) (x p : List Float) (scale : Float) → Ran (drawPlan f n x p scale) (λ (v : List Float). Filled (pointNumbers n) 136 v)
+  draw-filled n x p scale =
+      ran-after _ _ _ (λ l e.
+      ran-after _ _ _ (λ s g.
+      ran-listed _ (pointNumbers n) _ _ (λ t.
+      ran-finish _ _ (filled-rows (pointAt f n x l s) n (n + n + 1) 136 t))))
+
+  predict-filled : (n : ℕ) (points : List Float) (w0m : Float) (w : List Float) (kinds : List Kind) (q : List Float) → Ran (predictPlan f n points w0m w kinds q) (λ (m : Moment). Filled n 8 (m .x) × Filled (n * n) 64 (m .p))
+  predict-filled n points w0m w kinds q =
+      ran-listed _ n _ _ (λ t.
+      ran-listed _ (n * n) _ _ (λ u.
+      ran-finish _ _ (filled-places _ n 8 t, filled-places _ (n * n) 64 u)))
+
+  correct-filled : (g : Given) → Ran (correctPlan f g) (λ (m : Moment). Filled (g .n) 8 (m .x) × Filled (g .n * g .n) 64 (m .p))
+  correct-filled g =
+      ran-after _ _ _ (λ zm e0.
+      ran-after _ _ _ (λ s e1.
+      ran-after _ _ _ (λ xm e2.
+      ran-after _ _ _ (λ c e3.
+      ran-after _ _ _ (λ l e4.
+      ran-after _ _ _ (λ v e5.
+      ran-after _ _ _ (λ k e6.
+      ran-after _ _ _ (λ y e7.
+      ran-listed _ (g .n) _ _ (λ t.
+      ran-listed _ (g .n * g .n) _ _ (λ u.
+      ran-finish _ _ (filled-places _ (g .n) 8 t, filled-places _ (g .n * g .n) 64 u)))))))))))
+
+-- ---- each call, once taken
+
+module _ (f : Format) (s : Filter) (o : Sound f s) where
+  -- with nothing open the weights and points drawn, or the current ones, are laid out
+  drawn-fine : (to : Weighted → Setting) → ((w : Weighted) → Laid (s .n) w → FineSetting f (s .n) (to w)) → 1 ≤ s .n
+      → Ran (draws f to (seen s)) (λ (d : Done). FineDone f (s .n) d)
+  drawn-fine to fine h =
+      ran-mapped _ (opened to (s .n) (weightsOf f (s .n) (s .params))) (drawing f (seen s)) (λ points e.
+      let a = draw-filled f (s .n) (s .x) (s .p) (scaleOf f (s .n) (s .params)) points e in
+      record { change = fine _ (laid-weights f (s .n) (s .params) (o .passed h) points a); given = a .bounded })
+
+  open-weighted : isShut (s .stage) ≡ false → (points : List Float) → Filled (pointNumbers (s .n)) 136 points → Laid (s .n) (record { weights = seen s .«drawn_weights»; points = points })
+  open-weighted h points a = rw h (record { count = o .drawn-weights h .0; weights = o .drawn-weights h .1; points = a })
+
+  pub fine : (c : Call) → Passed f (asks (seen s) c) → Ran (plan f (seen s) c) (λ (d : Done). FineDone f (s .n) d)
+  unfolding allFinite
+  fine (setting (set-x v)) h =
+      ran-finish _ _ (record { change = filled-front (s .n) 8 v (leb-true _ _ (h .lent .0)) (in-range 1 8 (s .n) (h .sizes .0) .1) (h .inputs); given = refl })
+  fine (setting (set-p v)) h =
+      ran-finish _ _ (record { change = filled-front (s .n * s .n) 64 v (leb-true _ _ (h .lent .0)) (square-room (s .n) (in-range 1 8 (s .n) (h .sizes .0) .1)) (h .inputs); given = refl })
+  fine (setting (set-q v)) h =
+      ran-finish _ _ (record { change = filled-front (s .n * s .n) 64 v (leb-true _ _ (h .lent .0)) (square-room (s .n) (in-range 1 8 (s .n) (h .sizes .0) .1)) (h .inputs); given = refl })
+  fine (setting (set-params p)) h = ran-finish _ _ (record { change = (h .inputs, both {a = fit f (by-params (s .n) p)} (h .params) .0); given = refl })
+  fine (setting (set-kind i k)) h =
+      ran-finish _ _ (record {
+        change = (kinds-finite k (s .kinds) i (o .kinds) (h .inputs), kinds-fit k f (s .kinds) i (o .turns) (both {a = fit f (by-kind k)} (h .params) .0), length-set (s .kinds) i k ∙ o .eight);
+        given = refl;
+      })
+  fine (setting (open-prediction b)) h = drawn-fine opened-prediction (λ w a. a) (in-range 1 8 (s .n) (h .sizes .0) .0)
+  fine (setting (open-correction b)) h =
+      ran-either _ (s .stale) _ _
+      (λ t. drawn-fine opened-correction (λ w a. a) (in-range 1 8 (s .n) (h .sizes .0) .0))
+      (λ t. ran-finish _ _ (rw t (record { change = record { count = o .weights t .0; weights = o .weights t .1; points = o .points t }; given = o .points t .bounded })))
+  fine (closing (close-prediction v)) h =
+      let points = front (pointNumbers (s .n)) v (zeros 136) in
+      ran-mapped _ (closed (seen s .«drawn_weights») points false) (predicting f (seen s) v) (λ m e.
+      let a = predict-filled f (s .n) points (w0mOf f (s .n) (s .params)) (seen s .«drawn_weights») (s .kinds) (s .q) m e in
+      let b = filled-front (pointNumbers (s .n)) 136 v (leb-true _ _ (h .lent .0)) (points-room (s .n) (in-range 1 8 (s .n) (h .sizes .0) .1)) (h .inputs) in
+      record { change = (a .0, a .1, open-weighted (predicting-open (s .stage) (h .fits)) points b); given = refl })
+  fine (closing (close-correction m z r kinds observed)) h =
+      let t = correcting-open (s .stage) (h .fits) in
+      ran-mapped _ (closed (seen s .«drawn_weights») (seen s .«drawn_points») true) (correcting f (seen s) m z r kinds observed) (λ q e.
+      let a = correct-filled f (measured f (seen s) m z r kinds observed) q e in
+      record { change = (a .0, a .1, open-weighted t (seen s .«drawn_points») (rw t (o .drawn-points t))); given = refl })
+  fine abandon h = ran-finish _ _ (record { change = tt; given = refl })
+  fine (reading (read-x b)) h = ran-finish _ _ (record { change = tt; given = o .x .bounded })
+  fine (reading (read-p b)) h = ran-finish _ _ (record { change = tt; given = o .p .bounded })
+  fine (reading (read-q b)) h = ran-finish _ _ (record { change = tt; given = o .q .bounded })
+  fine (reading (read-points b)) h = ran-finish _ _ (record { change = tt; given = rw (h .stale) (o .points (h .stale) .bounded) })
+  fine (reading read-params) h = ran-finish _ _ (record { change = tt; given = o .params })
+  fine (reading read-stale) h = ran-finish _ _ (record { change = tt; given = refl })

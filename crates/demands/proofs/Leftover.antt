@@ -1,0 +1,199 @@
+-- Nothing left over counts: a run on two alike filters tells the same; and striking refused calls, or an open with everything up to its abandon, changes none of the rest.
+-- No law here goes by the calls: a step is a change worked out from what is seen, and the laws go by the changes. Assumes nothing.
+use mathlib.Core.Path.{_≡_, refl, sym, ap, ap₂, _∙_, subst}
+use mathlib.Core.Bool.{Bool, true, false, not, cond}
+use mathlib.Core.List.{List, [], _∷_, _++_}
+use lib.Ieee.{Format}
+use Rattle.floats.specs.Numbers.{allFinite}
+use Rattle.floats.specs.Refusal.{Outcome, refused, accepted}
+use Rattle.matrix.specs.Results.{run}
+use Rattle.filter.specs.declared.Filter.{Filter}
+use Rattle.filter.specs.declared.Stage.{Stage}
+use Rattle.filter.specs.declared.Stage.the-variants.{Shut, Predicting, Correcting}
+use Rattle.filter.specs.Asked.{within, inRange}
+use Rattle.filter.specs.Filters.{isShut, seen, Setting, x-set, p-set, q-set, params-set, kinds-set, opened-prediction, opened-correction, Change, sets, closes, abandons, reads, set, abandoned, changed}
+use Rattle.filter.specs.Calls.{Call, setting, closing, abandon, reading, fits, asks, Done, plan}
+use Rattle.filter.specs.Steps.{outcome, Reply, stepped, step}
+use Rattle.demands.specs.Runs.{tells, told, ranTo, Alike, StaysOpen, Struck, none-left, call-kept, refused-struck, opening-struck, rest}
+use Rattle.demands.proofs.Rows.{two-ways}
+use Rattle.demands.proofs.Exactly.{refused-nothing}
+use Rattle.demands.proofs.Passed.{Pass, by-cases, run-cases}
+use Rattle.demands.proofs.Table.{Own, regular}
+
+-- ---- a filter as seen
+
+cond-twice : {A : Type 0} (b : Bool) (x y : A) → cond b x (cond b x y) ≡ cond b x y
+cond-twice true x y = refl
+cond-twice false x y = refl
+
+seen-twice : (s : Filter) → seen (seen s) ≡ seen s
+seen-twice s = simp cond-twice
+
+-- each change reads of a filter what is seen
+set-seen : (s : Filter) (c : Setting) → seen (set s c) ≡ seen (set (seen s) c)
+set-seen s (x-set v) = simp cond-twice
+set-seen s (p-set v) = simp cond-twice
+set-seen s (q-set v) = simp cond-twice
+set-seen s (params-set v) = simp cond-twice
+set-seen s (kinds-set v) = simp cond-twice
+set-seen s (opened-prediction d) = simp cond-twice
+set-seen s (opened-correction d) = simp cond-twice
+
+changed-seen : (s : Filter) (c : Change) → seen (changed s c) ≡ seen (changed (seen s) c)
+changed-seen s (sets c) = set-seen s c
+changed-seen s (closes c) = refl
+changed-seen s abandons = simp cond-twice
+changed-seen s reads = sym (seen-twice s)
+
+-- ---- a step
+
+stepped-reply : (s t : Filter) (o : Outcome Done) → stepped s o .reply ≡ stepped t o .reply
+stepped-reply s t (refused r) = refl
+stepped-reply s t (accepted d) = refl
+
+stepped-seen : (s : Filter) (o : Outcome Done) → seen (stepped s o .filter) ≡ seen (stepped (seen s) o .filter)
+stepped-seen s (refused r) = sym (seen-twice s)
+stepped-seen s (accepted d) = changed-seen s (d .change)
+
+module _ (f : Format) where
+  step-reply : (s : Filter) (c : Call) → step f s c .reply ≡ step f (seen s) c .reply
+  unfolding step
+  step-reply s c = stepped-reply s (seen s) (outcome f (seen s) c) ∙ ap (λ (t : Filter). stepped (seen s) (outcome f t c) .reply) (sym (seen-twice s))
+
+  step-seen : (s : Filter) (c : Call) → seen (step f s c .filter) ≡ seen (step f (seen s) c .filter)
+  unfolding step
+  step-seen s c = stepped-seen s (outcome f (seen s) c) ∙ ap (λ (t : Filter). seen (stepped (seen s) (outcome f t c) .filter)) (sym (seen-twice s))
+
+  module _ (s t : Filter) (e : seen s ≡ seen t) (c : Call) where
+    same-reply : step f s c .reply ≡ step f t c .reply
+    same-reply = step-reply s c ∙ ap (λ (u : Filter). step f u c .reply) e ∙ sym (step-reply t c)
+
+    same-seen : seen (step f s c .filter) ≡ seen (step f t c .filter)
+    same-seen = step-seen s c ∙ ap (λ (u : Filter). seen (step f u c .filter)) e ∙ sym (step-seen t c)
+
+    same-told : tells (step f s c) ≡ tells (step f t c)
+    unfolding tells
+    same-told = ap₂ (λ (r : Reply) (u : Filter). tells (record { filter = u; reply = r })) same-reply same-seen
+
+  -- ---- a run
+
+  same-run : (s t : Filter) → seen s ≡ seen t → (cs : List Call) → told f s cs ≡ told f t cs
+  unfolding told
+  same-run s t e [] = refl
+  same-run s t e (c ∷ cs) = ap₂ _∷_ (same-told s t e c) (same-run (step f s c .filter) (step f t c .filter) (same-seen s t e c) cs)
+
+  -- NOTHING LEFT OVER COUNTS
+  pub nothing-left-over : (s t : Filter) → Alike s t → (cs : List Call) → told f s cs ≡ told f t cs
+  nothing-left-over s t a cs = same-run s t (simp (a .n, a .x, a .p, a .q, a .params, a .kinds, a .stale₁, a .stale₂, a .shut₁, a .shut₂)) cs
+
+-- ---- what is open
+
+shut-is : (t : Stage) → isShut t ≡ true → t ≡ Shut
+shut-is Shut h = refl
+shut-is Predicting h = absurd (two-ways h refl)
+shut-is Correcting h = absurd (two-ways h refl)
+
+-- with nothing open, scratch is all that an abandoned filter differs in
+abandoned-seen : (s : Filter) → isShut (s .stage) ≡ true → seen (abandoned s) ≡ seen s
+abandoned-seen s h = rw (shut-is (s .stage) h)
+
+-- a setting that opens something, abandoned
+setting-abandoned : (s : Filter) (c : Setting) → isShut (s .stage) ≡ true → isShut (set s c .stage) ≡ false → abandoned (set s c) ≡ abandoned s
+setting-abandoned s (x-set v) h k = absurd (two-ways h k)
+setting-abandoned s (p-set v) h k = absurd (two-ways h k)
+setting-abandoned s (q-set v) h k = absurd (two-ways h k)
+setting-abandoned s (params-set v) h k = absurd (two-ways h k)
+setting-abandoned s (kinds-set v) h k = absurd (two-ways h k)
+setting-abandoned s (opened-prediction d) h k = refl
+setting-abandoned s (opened-correction d) h k = refl
+
+kept-n : (s : Filter) (c : Change) → changed s c .n ≡ s .n
+kept-n s (sets (x-set v)) = refl
+kept-n s (sets (p-set v)) = refl
+kept-n s (sets (q-set v)) = refl
+kept-n s (sets (params-set v)) = refl
+kept-n s (sets (kinds-set v)) = refl
+kept-n s (sets (opened-prediction d)) = refl
+kept-n s (sets (opened-correction d)) = refl
+kept-n s (closes c) = refl
+kept-n s abandons = refl
+kept-n s reads = refl
+
+-- a change that opens something, where nothing was open
+opened-abandoned : (s : Filter) (c : Change) → isShut (s .stage) ≡ true → isShut (changed s c .stage) ≡ false → abandoned (changed s c) ≡ abandoned s
+opened-abandoned s (sets c) h k = setting-abandoned s c h k
+opened-abandoned s (closes c) h k = absurd (two-ways refl k)
+opened-abandoned s abandons h k = absurd (two-ways refl k)
+opened-abandoned s reads h k = absurd (two-ways h k)
+
+-- a change of a call that fits, where something is open before and after it
+open-unchanged : (s : Filter) (c : Call) (d : Change) → Own c d → fits c (s .stage) ≡ true → isShut (s .stage) ≡ false → isShut (changed s d .stage) ≡ false → changed s d ≡ s
+open-unchanged s (setting c) d o g h k = absurd (two-ways g h)
+open-unchanged s (closing c) d o g h k = absurd (two-ways refl (rw (o .1) at k))
+open-unchanged s abandon d o g h k = absurd (two-ways refl (rw o at k))
+open-unchanged s (reading c) d o g h k = rw o
+
+module _ (f : Format) (s : Filter) where
+  -- of a step: what holds where it is refused, and of a change of the call's own sort once its line of the table is passed
+  step-cases : (c : Call) (P : Filter → Type 0) → P s → ((d : Change) → Own c d → fits c (s .stage) ≡ true → inRange 1 8 (s .n) ≡ true → P (changed s d)) → P (step f s c .filter)
+  unfolding step
+  step-cases c P left made =
+      let line = regular f (seen s) c in
+      by-cases (λ o. P (stepped s o .filter)) (λ r. left) f (asks (seen s) c) (run (plan f (seen s) c))
+      (λ h.
+      run-cases (λ (d : Done). Own c (d .change)) (λ o. P (stepped s o .filter)) (λ r. left) (plan f (seen s) c) (line .change)
+      (λ d o. made (d .change) o (sym (line .fitting) ∙ h .fits) (subst (Pass within) (line .states) (h .sizes) .0)))
+
+  -- while a call is open, a call after which one still is changes nothing
+  open-same : (c : Call) → isShut (s .stage) ≡ false → isShut (step f s c .filter .stage) ≡ false → step f s c .filter ≡ s
+  open-same c h = step-cases c (λ t. isShut (t .stage) ≡ false → t ≡ s) (λ k. refl) (λ d o g n k. open-unchanged s c d o g h k)
+
+  -- a call that opens one, where none was open
+  opens : (c : Call) → isShut (s .stage) ≡ true → isShut (step f s c .filter .stage) ≡ false
+      → (abandoned (step f s c .filter) ≡ abandoned s) × (inRange 1 8 (step f s c .filter .n) ≡ true)
+  opens c h =
+      step-cases c (λ t. isShut (t .stage) ≡ false → (abandoned t ≡ abandoned s) × (inRange 1 8 (t .n) ≡ true)) (λ k. absurd (two-ways h k))
+      (λ d o g n k. (opened-abandoned s d h k, ap (inRange 1 8) (kept-n s d) ∙ n))
+
+  -- abandon is taken where something is open
+  abandon-open : isShut (s .stage) ≡ false → inRange 1 8 (s .n) ≡ true → step f s abandon .filter ≡ abandoned s
+  unfolding step allFinite
+  abandon-open h k = simp (h, k)
+
+-- ---- striking
+
+module _ (f : Format) where
+  open-now : (s : Filter) (cs : List Call) → StaysOpen f s cs → isShut (s .stage) ≡ false
+  open-now s [] h = h
+  open-now s (c ∷ cs) h = h .0
+
+  stays-same : (s : Filter) (cs : List Call) → StaysOpen f s cs → ranTo f s cs ≡ s
+  unfolding ranTo
+  stays-same s [] h = refl
+  stays-same s (c ∷ cs) h = stays-same (step f s c .filter) cs (h .1) ∙ open-same f s c (h .0) (open-now (step f s c .filter) cs (h .1))
+
+  ran-append : (s : Filter) (cs ds : List Call) → ranTo f s (cs ++ ds) ≡ ranTo f (ranTo f s cs) ds
+  unfolding ranTo
+  ran-append s [] ds = refl
+  ran-append s (c ∷ cs) ds = ran-append (step f s c .filter) cs ds
+
+  -- AN OPEN CALL, ABANDONED: the filter is again, in every bit but scratch, what it was before; scratch is +0
+  pub opening-abandoned : (s : Filter) (c : Call) (mid : List Call) → isShut (s .stage) ≡ true → StaysOpen f (step f s c .filter) mid → ranTo f s (c ∷ mid ++ (abandon ∷ [])) ≡ abandoned s
+  unfolding ranTo
+  opening-abandoned s c mid h st =
+      let t = step f s c .filter in
+      let k = open-now t mid st in
+      let o = opens f s c h k in
+      ran-append t mid (abandon ∷ []) ∙ ap (λ (z : Filter). step f z abandon .filter) (stays-same t mid st) ∙ abandon-open f t k (o .1) ∙ o .0
+
+  -- what the whole run on s tells at the calls that are not struck is what the struck run tells, on any filter that is seen alike
+  struck-same : (t : Filter) {s : Filter} {cs ds : List Call} → seen s ≡ seen t → (k : Struck f s cs ds) → rest f k ≡ told f t ds
+  unfolding rest told
+  struck-same t e none-left = refl
+  struck-same t e (call-kept {s = s} {c = c} k) = ap₂ _∷_ (same-told f s t e c) (struck-same (step f t c .filter) (same-seen f s t e c) k)
+  struck-same t e (refused-struck {s = s} {c = c} r k) = struck-same t (ap seen (refused-nothing f s c r .0) ∙ e) k
+  struck-same t e (opening-struck {s = s} c mid h st k) = struck-same t (ap seen (opening-abandoned s c mid h st) ∙ abandoned-seen s h ∙ e) k
+
+  -- STRIKING CHANGES NONE OF THE REST
+  pub striking : {s : Filter} {cs ds : List Call} (k : Struck f s cs ds) → rest f k ≡ told f s ds
+  striking {s} k = struck-same s refl k

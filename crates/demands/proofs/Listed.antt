@@ -1,0 +1,50 @@
+-- The results that a call's steps check are those that document 01 lists (specs/Listed.antt), in its order. No other call has any. Assumes nothing.
+use Prim.Native.Nat.{ℕ}
+use mathlib.Core.Path.{_≡_, refl}
+use mathlib.Core.Bool.{Bool, true, false, cond}
+use mathlib.Core.List.{List, []}
+use lib.Ieee.{Float, Format}
+use Rattle.floats.specs.Numbers.{zeros}
+use Rattle.floats.specs.Fronts.{front}
+use Rattle.angles.specs.declared.Kind.{Kind}
+use Rattle.matrix.specs.Results.{Plan, finish, planned}
+use Rattle.matrix.proofs.Mapped.{planned-mapped}
+use Rattle.sigma.specs.Weights.{scaleOf, w0mOf, weightsOf}
+use Rattle.sigma.specs.Draw.{pointNumbers, drawPlan}
+use Rattle.sigma.specs.Predict.{Moment, predictPlan}
+use Rattle.correction.specs.Correct.{correctPlan}
+use Rattle.filter.specs.declared.Filter.{Filter}
+use Rattle.filter.specs.Filters.{opened-prediction, opened-correction}
+use Rattle.filter.specs.Calls.{setting, closing, open-prediction, open-correction, close-prediction, close-correction, opened, closed, draws, plan}
+use Rattle.demands.specs.Listed.{listedAtOpen, listedAtPrediction, listedAtCorrection, measured}
+
+-- the steps of an opening that draws, and of the two closes
+module _ (f : Format) (s : Filter) where
+  abbrev pub drawing : Plan (List Float)
+  drawing = drawPlan f (s .n) (s .x) (s .p) (scaleOf f (s .n) (s .params))
+
+  abbrev pub predicting : List Float → Plan Moment
+  predicting v = predictPlan f (s .n) (front (pointNumbers (s .n)) v (zeros 136)) (w0mOf f (s .n) (s .params)) (s .«drawn_weights») (s .kinds) (s .q)
+
+  abbrev pub correcting : ℕ → List Float → List Float → List Kind → List Float → Plan Moment
+  correcting m z r kinds observed = correctPlan f (measured f s m z r kinds observed)
+
+module _ (f : Format) (s : Filter) where
+  pub open-prediction-lists : (b : List Float) → planned (plan f s (setting (open-prediction b))) ≡ listedAtOpen f (s .n) (s .x) (s .p) (scaleOf f (s .n) (s .params))
+  open-prediction-lists b = planned-mapped (opened opened-prediction (s .n) (weightsOf f (s .n) (s .params))) (drawing f s)
+
+  -- not stale, nothing is drawn
+  pub open-correction-lists : (b : List Float) → planned (plan f s (setting (open-correction b))) ≡ cond (s .stale) (listedAtOpen f (s .n) (s .x) (s .p) (scaleOf f (s .n) (s .params))) []
+  open-correction-lists b = go (s .stale)
+    where
+      go : (t : Bool) → planned (cond t (draws f opened-correction s) (finish (opened opened-correction (s .n) (s .weights) (s .points)))) ≡ cond t (listedAtOpen f (s .n) (s .x) (s .p) (scaleOf f (s .n) (s .params))) []
+      go true = planned-mapped (opened opened-correction (s .n) (weightsOf f (s .n) (s .params))) (drawing f s)
+      go false = refl
+
+  pub close-prediction-lists : (v : List Float)
+      → planned (plan f s (closing (close-prediction v))) ≡ listedAtPrediction f (s .n) (front (pointNumbers (s .n)) v (zeros 136)) (w0mOf f (s .n) (s .params)) (s .«drawn_weights») (s .kinds) (s .q)
+  close-prediction-lists v = planned-mapped (closed (s .«drawn_weights») (front (pointNumbers (s .n)) v (zeros 136)) false) (predicting f s v)
+
+  pub close-correction-lists : (m : ℕ) (z r : List Float) (kinds : List Kind) (observed : List Float)
+      → planned (plan f s (closing (close-correction m z r kinds observed))) ≡ listedAtCorrection f (measured f s m z r kinds observed)
+  close-correction-lists m z r kinds observed = planned-mapped (closed (s .«drawn_weights») (s .«drawn_points») true) (correcting f s m z r kinds observed)

@@ -1,0 +1,107 @@
+-- Opening never answers 5 or 6: stored numbers are finite, and stored parameters have passed 6, so N has a root. Assumes nothing.
+use Prim.Native.Nat.{ℕ, _≤_}
+use mathlib.Core.Path.{_≡_, refl}
+use mathlib.Core.Bool.{Bool, true, false, _&&_, cond}
+use mathlib.Core.List.{List}
+use mathlib.Core.Logic.{_≢_, _⊎_, inl, inr, ⊎-elim}
+use native.Mathlib.Omega.{arith}
+use lib.Dec.{leb}
+use lib.ListN.{length, take}
+use lib.Ieee.{Float, Format}
+use Rattle.floats.specs.Refusal.{Refusal, SIZE, SHORT, STAGE, NUMBER, PARAM, PIVOT, RANGE, number, Outcome, refused, accepted, unless, onward}
+use Rattle.floats.specs.Numbers.{allFinite, aboveZero}
+use Rattle.root.specs.Definition.{rooted}
+use Rattle.root.proofs.Answers.{above-rooted}
+use Rattle.matrix.specs.Results.{worked, listed, Plan, run}
+use Rattle.matrix.specs.Factor.{factorOf}
+use Rattle.matrix.proofs.FactorLaws.{Stopped, at-pivot, at-entry, is-stopped}
+use Rattle.matrix.proofs.Mapped.{run-mapped}
+use Rattle.sigma.specs.Weights.{scaleOf, weightsOf, weightsPass}
+use Rattle.sigma.specs.Draw.{pointNumbers, pointsOf, drawPlan}
+use Rattle.filter.specs.declared.Filter.{Filter}
+use Rattle.filter.specs.declared.Weighted.{Weighted}
+use Rattle.filter.specs.Asked.{inRange}
+use Rattle.filter.specs.Filters.{isShut, seen, Setting, opened-prediction, opened-correction}
+use Rattle.filter.specs.Calls.{setting, open-prediction, open-correction, Done, opened, draws, plan}
+use Rattle.filter.specs.Steps.{stepped, step}
+use Rattle.demands.specs.Rows.{Neither}
+use Rattle.demands.specs.Sound.{Sound, Yielded}
+use Rattle.demands.proofs.Passed.{both}
+use Rattle.demands.proofs.Listed.{drawing}
+use Rattle.demands.proofs.Fine.{in-range}
+use Rattle.demands.proofs.Sound.{sound}
+
+-- refused by 7 or 9, or accepted
+abbrev Late : {A : Type 0} → Outcome A → Type 0
+Late (refused r) = (r ≡ PIVOT) ⊎ (r ≡ RANGE)
+Late (accepted a) = Unit {0}
+
+module _ {A B : Type 0} where
+  onward-late : (o : Outcome A) (k : A → Outcome B) → Late o → ((a : A) → Late (k a)) → Late (onward o k)
+  onward-late (refused r) k h g = h
+  onward-late (accepted a) k h g = g a
+
+late-number : (s : Filter) (o : Outcome Done) → Late o → Neither (stepped s o .reply .refusal)
+late-number s (refused r) h = ⊎-elim (λ e. rw e (λ z. absurd (omega arith), λ z. absurd (omega arith))) (λ e. rw e (λ z. absurd (omega arith), λ z. absurd (omega arith))) h
+late-number s (accepted d) h = (λ z. absurd (omega arith), λ z. absurd (omega arith))
+
+-- 3, 1 or 2 in front
+early : (s : Filter) (t u v : Bool) (o : Outcome Done) → (u ≡ true → Late o) → Neither (stepped s (unless t STAGE (unless u SIZE (unless v SHORT o))) .reply .refusal)
+early s false u v o h = (λ z. absurd (omega arith), λ z. absurd (omega arith))
+early s true false v o h = (λ z. absurd (omega arith), λ z. absurd (omega arith))
+early s true true false o h = (λ z. absurd (omega arith), λ z. absurd (omega arith))
+early s true true true o h = late-number s o (h refl)
+
+module _ (f : Format) where
+  factor-late : (a : List Float) (n : ℕ) → n ≤ 8 → Late (worked (factorOf f PIVOT a n))
+  factor-late a n h = go (worked (factorOf f PIVOT a n)) refl
+    where
+      why : (r : Refusal) → Stopped f PIVOT a n r → (r ≡ PIVOT) ⊎ (r ≡ RANGE)
+      why r (at-pivot j l g p t) = inl refl
+      why r (at-entry i j l g k p t) = inr refl
+
+      go : (o : Outcome (List Float)) → worked (factorOf f PIVOT a n) ≡ o → Late o
+      go (refused r) e = why r (is-stopped f PIVOT a n h r e)
+      go (accepted l) e = tt
+
+  listed-late : {A : Type 0} (t : Bool) (a : A) → Late (unless t RANGE (accepted a))
+  listed-late true a = tt
+  listed-late false a = inr refl
+
+  draw-late : (n : ℕ) (x p : List Float) (scale : Float) → n ≤ 8 → rooted scale ≡ true → Late (run (drawPlan f n x p scale))
+  unfolding run worked
+  draw-late n x p scale h g =
+      onward-late (worked (factorOf f PIVOT p n)) _ (factor-late p n h) (λ l.
+      rw g (onward-late (worked (listed (pointNumbers n) (pointsOf f n x l _))) _ (listed-late (allFinite (take (pointNumbers n) (pointsOf f n x l _))) _) (λ v. tt)))
+
+  module _ (s : Filter) (o : Sound f s) (h : 1 ≤ s .n) where
+    draws-late : (to : Weighted → Setting) → Late (run (draws f to (seen s)))
+    unfolding weightsPass
+    draws-late to =
+        rw (run-mapped (opened to (s .n) (weightsOf f (s .n) (s .params))) (drawing f (seen s)))
+        (onward-late (run (drawing f (seen s))) _
+        (draw-late (s .n) (s .x) (s .p) (scaleOf f (s .n) (s .params)) (o .small) (above-rooted (scaleOf f (s .n) (s .params)) (both {a = aboveZero (scaleOf f (s .n) (s .params))} (o .passed h) .0)))
+        (λ v. tt))
+
+  module _ (s : Filter) (o : Sound f s) where
+    sized : inRange 1 8 (s .n) && true ≡ true → 1 ≤ s .n
+    sized h = in-range 1 8 (s .n) (both {a = inRange 1 8 (s .n)} h .0) .0
+
+    sound-prediction : (b : List Float) → Neither (step f s (setting (open-prediction b)) .reply .refusal)
+    unfolding step allFinite
+    sound-prediction b = early s (isShut (s .stage)) (inRange 1 8 (s .n) && true) (leb (pointNumbers (s .n)) (length b) && true) (run (draws f opened-prediction (seen s))) (λ h. draws-late s o (sized h) opened-prediction)
+
+    sound-correction : (b : List Float) → Neither (step f s (setting (open-correction b)) .reply .refusal)
+    unfolding step allFinite
+    sound-correction b = early s (isShut (s .stage)) (inRange 1 8 (s .n) && true) (leb (pointNumbers (s .n)) (length b) && true) (run (plan f (seen s) (setting (open-correction b)))) (λ h. either (s .stale) _ _ (draws-late s o (sized h) opened-correction) tt)
+      where
+        either : (t : Bool) (p q : Plan Done) → Late (run p) → Late (run q) → Late (run (cond t p q))
+        either true p q i j = i
+        either false p q i j = j
+
+  -- OPENING NEVER ANSWERS 5 OR 6
+  pub opening-prediction : {s : Filter} → Yielded f s → (b : List Float) → Neither (step f s (setting (open-prediction b)) .reply .refusal)
+  opening-prediction {s} y b = sound-prediction s (sound f y) b
+
+  pub opening-correction : {s : Filter} → Yielded f s → (b : List Float) → Neither (step f s (setting (open-correction b)) .reply .refusal)
+  opening-correction {s} y b = sound-correction s (sound f y) b

@@ -1,0 +1,169 @@
+-- The invariant: New makes it, every call keeps it, points, weights and scratch put at will keep it; and under it every number handed out is finite. Assumes nothing.
+use Prim.Native.Nat.{ℕ, _*_, _≤_, zero-le}
+use mathlib.Core.Path.{_≡_, refl, sym, ap}
+use mathlib.Core.Bool.{true}
+use mathlib.Core.List.{List, [], _∷_}
+use native.Mathlib.Omega.{arith}
+use borrow.Author.Tests.{leb-true}
+use lib.ListN.{take}
+use lib.Ieee.{Float, Format}
+use Rattle.floats.specs.Refusal.{Refusal, Outcome, refused, accepted, or}
+use Rattle.floats.specs.Numbers.{zeros, allFinite}
+use Rattle.matrix.specs.Results.{run}
+use Rattle.sigma.specs.declared.Params.{Params}
+use Rattle.sigma.specs.Weights.{weightsPass}
+use Rattle.sigma.specs.Draw.{pointNumbers}
+use Rattle.filter.specs.declared.Filter.{Filter}
+use Rattle.filter.specs.Asked.{by-params, fit}
+use Rattle.filter.specs.Filters.{isShut, seen, Setting, x-set, p-set, q-set, params-set, kinds-set, opened-prediction, opened-correction, Change, sets, closes, abandons, reads, set, changed}
+use Rattle.filter.specs.Calls.{Call, asks, Done, plan}
+use Rattle.filter.specs.Steps.{outcome, stepped, step}
+use Rattle.filter.specs.New.{fresh, empty, newAsks, newOf, newAnswer}
+use Rattle.demands.specs.Runs.{tells, told, Alike}
+use Rattle.demands.specs.Sound.{Filled, Sound, Tidy, Reached, made, further, Yielded, fresh-made, stepped-on, put-at-will, handedOut, Each, end, and}
+use Rattle.demands.proofs.Rows.{two-ways}
+use Rattle.demands.proofs.Passed.{both, by-cases, run-cases}
+use Rattle.demands.proofs.Arrays.{all-both, all-parts, drop-zeros, filled-front, filled-zeros, filled-all}
+use Rattle.demands.proofs.Fine.{FineSetting, Fine, FineDone, in-range, square-room, fine}
+
+module _ (f : Format) where
+  -- ---- New
+
+  fresh-sound : (n : ℕ) (x p q : List Float) (params : Params) → n ≤ 8 → Filled n 8 x → Filled (n * n) 64 p → Filled (n * n) 64 q
+      → allFinite (params .alpha ∷ params .beta ∷ params .kappa ∷ []) ≡ true → (1 ≤ n → weightsPass f n params ≡ true) → Sound f (fresh n x p q params)
+  unfolding allFinite
+  fresh-sound n x p q params h fx fp fq a w = record {
+    small = h;
+    x = fx;
+    p = fp;
+    q = fq;
+    params = a;
+    passed = w;
+    kinds = refl;
+    turns = refl;
+    eight = refl;
+    weights = λ e. absurd (two-ways refl e);
+    points = λ e. absurd (two-ways refl e);
+    drawn-weights = λ e. absurd (two-ways refl e);
+    drawn-points = λ e. absurd (two-ways refl e);
+  }
+
+  empty-sound : Sound f empty
+  unfolding allFinite
+  empty-sound = fresh-sound 0 (zeros 8) (zeros 64) (zeros 64) _ zero-le (filled-zeros 8) (filled-zeros 64) (filled-zeros 64) refl (λ h. absurd (omega arith))
+
+  fresh-tidy : (n : ℕ) (x p q : List Float) (params : Params) → Tidy (fresh n x p q params)
+  fresh-tidy n x p q params = record { unused = drop-zeros (pointNumbers n) 136; scratch-weights = λ e. refl; scratch-points = λ e. refl }
+
+  module _ (n : ℕ) (x p q : List Float) (params : Params) where
+    pub new-sound : Sound f (newAnswer f n x p q params .filter)
+    unfolding newOf
+    new-sound =
+        by-cases (λ o. Sound f (or empty o)) (λ r. empty-sound) f (newAsks f n x p q params) _ (λ h.
+        let small = in-range 1 8 n (h .sizes .0) .1 in
+        let a = all-parts (take n x) _ (h .inputs) in
+        let b = all-parts (take (n * n) p) _ (a .1) in
+        let c = all-parts (take (n * n) q) _ (b .1) in
+        fresh-sound n _ _ _ params small
+        (filled-front n 8 x (leb-true _ _ (h .lent .0)) small (a .0))
+        (filled-front (n * n) 64 p (leb-true _ _ (h .lent .1 .0)) (square-room n small) (b .0))
+        (filled-front (n * n) 64 q (leb-true _ _ (h .lent .1 .1 .0)) (square-room n small) (c .0))
+        (c .1)
+        (λ e. both {a = fit f (by-params n params)} (h .params) .0))
+
+    pub new-tidy : Tidy (newAnswer f n x p q params .filter)
+    unfolding newOf
+    new-tidy = by-cases (λ o. Tidy (or empty o)) (λ r. fresh-tidy 0 _ _ _ _) f (newAsks f n x p q params) _ (λ h. fresh-tidy n _ _ _ params)
+
+  -- ---- changes
+
+  set-sound : (s : Filter) (c : Setting) → Sound f s → FineSetting f (s .n) c → Sound f (set s c)
+  set-sound s (x-set v) o g = record { small = o .small; x = g; p = o .p; q = o .q; params = o .params; passed = o .passed; kinds = o .kinds; turns = o .turns; eight = o .eight; weights = o .weights; points = o .points; drawn-weights = o .drawn-weights; drawn-points = o .drawn-points }
+  set-sound s (p-set v) o g = record { small = o .small; x = o .x; p = g; q = o .q; params = o .params; passed = o .passed; kinds = o .kinds; turns = o .turns; eight = o .eight; weights = o .weights; points = o .points; drawn-weights = o .drawn-weights; drawn-points = o .drawn-points }
+  set-sound s (q-set v) o g = record { small = o .small; x = o .x; p = o .p; q = g; params = o .params; passed = o .passed; kinds = o .kinds; turns = o .turns; eight = o .eight; weights = o .weights; points = o .points; drawn-weights = o .drawn-weights; drawn-points = o .drawn-points }
+  set-sound s (params-set v) o g = record { small = o .small; x = o .x; p = o .p; q = o .q; params = g .0; passed = λ e. g .1; kinds = o .kinds; turns = o .turns; eight = o .eight; weights = o .weights; points = o .points; drawn-weights = o .drawn-weights; drawn-points = o .drawn-points }
+  set-sound s (kinds-set v) o g = record { small = o .small; x = o .x; p = o .p; q = o .q; params = o .params; passed = o .passed; kinds = g .0; turns = g .1; eight = g .2; weights = o .weights; points = o .points; drawn-weights = o .drawn-weights; drawn-points = o .drawn-points }
+  set-sound s (opened-prediction d) o g = record { small = o .small; x = o .x; p = o .p; q = o .q; params = o .params; passed = o .passed; kinds = o .kinds; turns = o .turns; eight = o .eight; weights = o .weights; points = o .points; drawn-weights = λ e. (g .count, g .weights); drawn-points = λ e. g .points }
+  set-sound s (opened-correction d) o g = record { small = o .small; x = o .x; p = o .p; q = o .q; params = o .params; passed = o .passed; kinds = o .kinds; turns = o .turns; eight = o .eight; weights = o .weights; points = o .points; drawn-weights = λ e. (g .count, g .weights); drawn-points = λ e. g .points }
+
+  changed-sound : (s : Filter) (c : Change) → Sound f s → Fine f (s .n) c → Sound f (changed s c)
+  changed-sound s (sets c) o g = set-sound s c o g
+  changed-sound s (closes c) o g = record { small = o .small; x = g .0; p = g .1; q = o .q; params = o .params; passed = o .passed; kinds = o .kinds; turns = o .turns; eight = o .eight; weights = λ e. (g .2 .count, g .2 .weights); points = λ e. g .2 .points; drawn-weights = λ e. absurd (two-ways refl e); drawn-points = λ e. absurd (two-ways refl e) }
+  changed-sound s abandons o g = record { small = o .small; x = o .x; p = o .p; q = o .q; params = o .params; passed = o .passed; kinds = o .kinds; turns = o .turns; eight = o .eight; weights = o .weights; points = o .points; drawn-weights = λ e. absurd (two-ways refl e); drawn-points = λ e. absurd (two-ways refl e) }
+  changed-sound s reads o g = o
+
+  set-tidy : (s : Filter) (c : Setting) → Tidy s → Tidy (set s c)
+  set-tidy s (x-set v) t = record { unused = t .unused; scratch-weights = t .scratch-weights; scratch-points = t .scratch-points }
+  set-tidy s (p-set v) t = record { unused = t .unused; scratch-weights = t .scratch-weights; scratch-points = t .scratch-points }
+  set-tidy s (q-set v) t = record { unused = t .unused; scratch-weights = t .scratch-weights; scratch-points = t .scratch-points }
+  set-tidy s (params-set v) t = record { unused = t .unused; scratch-weights = t .scratch-weights; scratch-points = t .scratch-points }
+  set-tidy s (kinds-set v) t = record { unused = t .unused; scratch-weights = t .scratch-weights; scratch-points = t .scratch-points }
+  set-tidy s (opened-prediction d) t = record { unused = t .unused; scratch-weights = λ e. absurd (two-ways e refl); scratch-points = λ e. absurd (two-ways e refl) }
+  set-tidy s (opened-correction d) t = record { unused = t .unused; scratch-weights = λ e. absurd (two-ways e refl); scratch-points = λ e. absurd (two-ways e refl) }
+
+  changed-tidy : (s : Filter) (c : Change) → Tidy s → Fine f (s .n) c → Tidy (changed s c)
+  changed-tidy s (sets c) t g = set-tidy s c t
+  changed-tidy s (closes c) t g = record { unused = g .2 .points .unused; scratch-weights = λ e. refl; scratch-points = λ e. refl }
+  changed-tidy s abandons t g = record { unused = t .unused; scratch-weights = λ e. refl; scratch-points = λ e. refl }
+  changed-tidy s reads t g = t
+
+  -- ---- EVERY CALL KEEPS IT
+
+  module _ (s : Filter) (c : Call) (o : Sound f s) where
+    fine-cases : (P : Outcome Done → Type 0) → ((r : Refusal) → P (refused r)) → ((d : Done) → FineDone f (s .n) d → P (accepted d)) → P (outcome f (seen s) c)
+    fine-cases P left taken = by-cases P left f (asks (seen s) c) (run (plan f (seen s) c)) (λ h. run-cases (FineDone f (s .n)) P left (plan f (seen s) c) (fine f s o c h) taken)
+
+    pub step-sound : Sound f (step f s c .filter)
+    unfolding step
+    step-sound = fine-cases (λ r. Sound f (stepped s r .filter)) (λ r. o) (λ d g. changed-sound s (d .change) o (g .change))
+
+    pub step-tidy : Tidy s → Tidy (step f s c .filter)
+    unfolding step
+    step-tidy t = fine-cases (λ r. Tidy (stepped s r .filter)) (λ r. t) (λ d g. changed-tidy s (d .change) t (g .change))
+
+    given-finite : allFinite (step f s c .reply .given) ≡ true
+    unfolding step allFinite
+    given-finite = fine-cases (λ r. allFinite (stepped s r .reply .given) ≡ true) (λ r. refl) (λ d g. g .given)
+
+  -- with points, weights and scratch put at will, stale and with no call open
+  alike-sound : (s t : Filter) → Sound f s → Alike s t → Sound f t
+  alike-sound s t o a = record {
+    small = rw (sym (a .n)) (o .small);
+    x = rw (sym (a .n), sym (a .x)) (o .x);
+    p = rw (sym (a .n), sym (a .p)) (o .p);
+    q = rw (sym (a .n), sym (a .q)) (o .q);
+    params = rw (sym (a .params)) (o .params);
+    passed = rw (sym (a .n), sym (a .params)) (o .passed);
+    kinds = rw (sym (a .kinds)) (o .kinds);
+    turns = rw (sym (a .kinds)) (o .turns);
+    eight = rw (sym (a .kinds)) (o .eight);
+    weights = λ e. absurd (two-ways (a .stale₂) e);
+    points = λ e. absurd (two-ways (a .stale₂) e);
+    drawn-weights = λ e. absurd (two-ways (ap isShut (a .shut₂)) e);
+    drawn-points = λ e. absurd (two-ways (ap isShut (a .shut₂)) e);
+  }
+
+  pub sound : {s : Filter} → Yielded f s → Sound f s
+  sound (fresh-made n x p q params) = new-sound n x p q params
+  sound (stepped-on {s = s} y c) = step-sound s c (sound y)
+  sound (put-at-will {s = s} t y a) = alike-sound s t (sound y) a
+
+  pub tidy : {s : Filter} → Reached f s → Sound f s × Tidy s
+  tidy (made n x p q params) = (new-sound n x p q params, new-tidy n x p q params)
+  tidy (further {s = s} r c) = let i = tidy r in (step-sound s c (i .0), step-tidy s c (i .0) (i .1))
+
+  -- ---- EVERY NUMBER HANDED OUT IS FINITE
+
+  tells-finite : (s : Filter) (c : Call) → Sound f s → allFinite (handedOut (tells (step f s c))) ≡ true
+  unfolding tells
+  tells-finite s c o =
+      let t = step-sound s c o in
+      all-both (step f s c .reply .given) _ (given-finite s c o) (all-both (step f s c .filter .x) (step f s c .filter .p) (filled-all (t .x)) (filled-all (t .p)))
+
+  run-finite : (s : Filter) → Sound f s → (cs : List Call) → Each (λ t. allFinite (handedOut t) ≡ true) (told f s cs)
+  unfolding told
+  run-finite s o [] = end
+  run-finite s o (c ∷ cs) = and (tells-finite s c o) (run-finite (step f s c .filter) (step-sound s c o) cs)
+
+  pub all-handed-finite : (s : Filter) → Yielded f s → (cs : List Call) → Each (λ t. allFinite (handedOut t) ≡ true) (told f s cs)
+  all-handed-finite s y cs = run-finite s (sound y) cs

@@ -1,0 +1,116 @@
+-- Document 01's table of refusals in its own words, and when a number is due. Definitions only.
+use Prim.Native.Nat.{ℕ, _<_}
+use mathlib.Core.Path.{_≡_}
+use mathlib.Core.Bool.{true, false}
+use mathlib.Core.List.{List, _∷_}
+use mathlib.Core.Logic.{_⊎_, _≢_}
+use lib.ListN.{length}
+use lib.Ieee.{Float, Format, lt, add}
+use lib.Ieee.Scale.{finite}
+use Rattle.floats.specs.Refusal.{Refusal, SIZE, SHORT, STAGE, STALE, NUMBER, PARAM, PIVOT, INNOV, RANGE}
+use Rattle.floats.specs.Numbers.{plusZero}
+use Rattle.angles.specs.declared.Residual.{Residual}
+use Rattle.angles.specs.declared.Residual.the-variants.{Plain, Turn}
+use Rattle.matrix.specs.Results.{Result, numbers, pivot, rooting, refusalOf}
+use Rattle.sigma.specs.Weights.{scaleOf, w0mOf, w0cOf, wiOf}
+use Rattle.filter.specs.Asked.{Size, Lent, Param, by-params, by-kind, Asks}
+
+-- one of the list has P
+pub data Some {A : Type 0} (P : A → Type 0) : List A → Type 0 where
+  here : {x : A} {l : List A} → P x → Some P (x ∷ l)
+  there : {x : A} {l : List A} → Some P l → Some P (x ∷ l)
+
+abbrev pub NotFinite : Float → Type 0
+NotFinite x = finite x ≡ false
+
+abbrev pub NotAbove : Float → Type 0
+NotAbove x = lt plusZero x ≡ false
+
+abbrev pub Below : Float → Type 0
+Below x = lt x plusZero ≡ true
+
+-- 1: n, m, a state index or k out of range
+abbrev pub OutOfRange : Size → Type 0
+OutOfRange s = (s .value < s .from) ⊎ (s .to < s .value)
+
+-- 2: a lent slice is shorter than the call needs
+abbrev pub Shorter : Lent → Type 0
+Shorter l = length (l .slice) < l .needs
+
+-- 6: n+lambda not finite or not above 0, or w0m, w0c or wi not finite; h not above 0 or 2h not finite
+abbrev pub UnfitTurn : Format → Residual → Type 0
+UnfitTurn f Plain = ⊥
+UnfitTurn f (Turn h) = NotAbove h ⊎ NotFinite (add f h h)
+
+abbrev pub Unfit : Format → Param → Type 0
+Unfit f (by-params n p) = (NotFinite (scaleOf f n p) ⊎ NotAbove (scaleOf f n p)) ⊎ (NotFinite (w0mOf f n p) ⊎ (NotFinite (w0cOf f n p) ⊎ NotFinite (wiOf f n p)))
+Unfit f (by-kind k) = UnfitTurn f (k .residual)
+
+-- 7 and 8: a pivot isn't finite or isn't above 0; 9: a listed step result isn't finite; 5: root of a number below zero
+abbrev pub Fails : Result → Type 0
+Fails (numbers v) = Some NotFinite v
+Fails (pivot r x) = NotFinite x ⊎ NotAbove x
+Fails (rooting x) = NotFinite x ⊎ Below x
+
+-- of the results in running order, the first that fails is refused by r
+pub data FirstFails : Refusal → List Result → Type 0 where
+  now : {v : Result} {vs : List Result} → Fails v → FirstFails (refusalOf v) (v ∷ vs)
+  later : {r : Refusal} {v : Result} {vs : List Result} → (Fails v → ⊥) → FirstFails r vs → FirstFails r (v ∷ vs)
+
+-- ---- THE TABLE: the causes of a refusal, a row each; what the steps meet comes by the first result that fails
+
+pub data Cause : Type 0 where
+  stage size short stale number param : Cause
+  met : Refusal → Cause
+
+abbrev pub gives : Cause → Refusal
+gives stage = STAGE
+gives size = SIZE
+gives short = SHORT
+gives stale = STALE
+gives number = NUMBER
+gives param = PARAM
+gives (met r) = r
+
+abbrev pub Applies : Format → Asks → List Result → Cause → Type 0
+Applies f a vs stage = a .fits ≡ false
+Applies f a vs size = Some OutOfRange (a .sizes)
+Applies f a vs short = Some Shorter (a .lent)
+Applies f a vs stale = a .stale ≡ true
+Applies f a vs number = Some NotFinite (a .inputs)
+Applies f a vs param = Some (Unfit f) (a .params)
+Applies f a vs (met r) = FirstFails r vs
+
+-- the order: 3, 1, 2, 4, 5, 6, then 7, 8 and 9 as the steps meet them
+abbrev pub place : Cause → ℕ
+place stage = 0
+place size = 1
+place short = 2
+place stale = 3
+place number = 4
+place param = 5
+place (met r) = 6
+
+-- r is due: a row that gives it applies, and no row before it in the order
+pub record Due (f : Format) (a : Asks) (vs : List Result) (r : Refusal) : Type 0 where
+  pub cause : Cause
+  pub gives-it : gives cause ≡ r
+  pub applies : Applies f a vs cause
+  pub no-earlier : (c : Cause) → place c < place cause → Applies f a vs c → ⊥
+
+-- ---- the numbers that a step can give: 5, 7, 8 and 9
+
+abbrev pub ByStep : Refusal → Type 0
+ByStep SIZE = ⊥
+ByStep SHORT = ⊥
+ByStep STAGE = ⊥
+ByStep STALE = ⊥
+ByStep NUMBER = Unit {0}
+ByStep PARAM = ⊥
+ByStep PIVOT = Unit {0}
+ByStep INNOV = Unit {0}
+ByStep RANGE = Unit {0}
+
+-- neither 5 nor 6
+abbrev pub Neither : ℕ → Type 0
+Neither k = (k ≢ 5) × (k ≢ 6)

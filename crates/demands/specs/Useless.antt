@@ -1,0 +1,91 @@
+-- The useless builds that document 01 names, each in its simplest form, and what they are held against; and a filter with leftovers put at will. Definitions only.
+use Prim.Native.String.{String}
+use mathlib.Core.Path.{_≡_}
+use mathlib.Core.Bool.{Bool, true, false, _&&_, cond}
+use mathlib.Core.List.{List, [], _∷_, map}
+use mathlib.Core.Logic.{_↔_}
+use lib.ListN.{length, getD, replicate}
+use lib.Ieee.{nan, binary64}
+use Rattle.floats.specs.Refusal.{Refusal, number, refused}
+use Rattle.floats.specs.Numbers.{plusZero, zeros}
+use Rattle.matrix.specs.Results.{planned}
+use Rattle.filter.specs.declared.Filter.{Filter}
+use Rattle.filter.specs.Filters.{filter, seen}
+use Rattle.filter.specs.Calls.{SetCall, set-x, set-p, set-q, set-params, set-kind, open-prediction, open-correction, Call, setting, closing, abandon, reading, asks, plan}
+use Rattle.filter.specs.Steps.{Stepped, stepped, step}
+use Rattle.demands.specs.Rows.{Due}
+use Rattle.demands.specs.Runs.{Told, tells, Alike}
+use Rattle.demands.specs.Written.{int, _is_}
+use Rattle.demands.specs.Cases.{at-first, story, against}
+
+-- what answers calls: the right one is `step`
+abbrev pub Build : Type 0
+Build = Filter → Call → Stepped
+
+abbrev pub right : Build
+right = step binary64
+
+-- ---- what stops a build
+
+-- demand 1: a number is given exactly when it is due
+abbrev pub ExactlyWhen : Build → Type 0
+ExactlyWhen b = (s : Filter) (c : Call) (r : Refusal) → (b s c .reply .refusal ≡ number r) ↔ Due binary64 (asks (seen s) c) (planned (plan binary64 (seen s) c)) r
+
+-- what a run tells
+unfoldable pub toldBy : Build → Filter → List Call → List Told
+toldBy b s [] = []
+toldBy b s (c ∷ cs) = tells (b s c) ∷ toldBy b (b s c .filter) cs
+
+-- the table, C9 to C11
+abbrev pub tableBy : Build → List (String × Bool)
+tableBy b = against story (toldBy b at-first (map (λ e. e .1 .0) story))
+
+-- demand 3: nothing left over counts
+abbrev pub NothingLeftOver : Build → Type 0
+NothingLeftOver b = (s t : Filter) → Alike s t → (cs : List Call) → toldBy b s cs ≡ toldBy b t cs
+
+-- ---- the builds
+
+-- refuses everything, by r
+abbrev pub refusing : Refusal → Build
+refusing r s c = stepped s (refused r)
+
+-- constant numbers: whatever it hands out, x and P are +0
+abbrev pub constant : Build
+constant s c =
+    let t = step binary64 s c in
+    record {
+      filter = filter (t .filter .n) (zeros 8) (zeros 64) (t .filter .q) (t .filter .params) (t .filter .kinds) (t .filter .weights) (t .filter .points) (t .filter .stale) (t .filter .stage) (t .filter .«drawn_weights») (t .filter .«drawn_points»);
+      reply = record { refusal = t .reply .refusal; given = zeros (length (t .reply .given)); stale = t .reply .stale };
+    }
+
+-- hands the filter back untouched
+abbrev pub untouched : Build
+untouched s c = record { filter = s; reply = step binary64 s c .reply }
+
+-- redraws at the first correction only: where weights have been installed before, an open correction goes by them and their points, stale or not
+abbrev pub marked : Bool → Filter → Filter
+marked m s = filter (s .n) (s .x) (s .p) (s .q) (s .params) (s .kinds) (s .weights) (s .points) m (s .stage) (s .«drawn_weights») (s .«drawn_points»)
+
+abbrev pub opensCorrection : SetCall → Bool
+opensCorrection (set-x v) = false
+opensCorrection (set-p v) = false
+opensCorrection (set-q v) = false
+opensCorrection (set-params p) = false
+opensCorrection (set-kind i k) = false
+opensCorrection (open-prediction b) = false
+opensCorrection (open-correction b) = true
+
+abbrev pub firstOnly : Build
+firstOnly s (setting c) =
+    let t = step binary64 (marked (s .stale && (getD (s .weights) 1 nan is plusZero)) s) (setting c) in
+    cond (opensCorrection c) (record { filter = marked (s .stale) (t .filter); reply = t .reply }) (step binary64 s (setting c))
+firstOnly s (closing c) = step binary64 s (closing c)
+firstOnly s abandon = step binary64 s abandon
+firstOnly s (reading c) = step binary64 s (reading c)
+
+-- ---- the filter of C9 with points, weights and scratch put at will
+
+abbrev pub at-will : Filter
+at-will =
+    filter (at-first .n) (at-first .x) (at-first .p) (at-first .q) (at-first .params) (at-first .kinds) (replicate 17 (int 7)) (replicate 136 (int 3)) (at-first .stale) (at-first .stage) (replicate 17 (int 5)) (replicate 136 (int 6))

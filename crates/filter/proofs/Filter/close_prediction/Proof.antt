@@ -1,0 +1,74 @@
+-- `Filter::close_prediction` meets its contract. Assumes nothing.
+use Prim.Native.Nat.{ℕ, _≤_}
+use mathlib.Core.Path.{_≡_, ap, ap₂, _∙_}
+use mathlib.Core.Bool.{false}
+use mathlib.Core.List.{List}
+use borrow.Author.Needs.{needs}
+use native.Mathlib.Omega.{arith}
+use denote.Ref.{now}
+use lib.Ieee.{Float, binary64}
+use Rattle.floats.specs.Numbers.{zeros}
+use Rattle.floats.specs.Fronts.{front}
+use Rattle.matrix.specs.Results.{run}
+use Rattle.sigma.specs.Draw.{pointNumbers}
+use Rattle.sigma.specs.Predict.{predictOf, moments}
+use Rattle.filter.specs.Filters.{close}
+use Rattle.filter.specs.Calls.{closing, close-prediction}
+use Rattle.filter.proofs.Sizes.{within-both, numbers-le}
+use Rattle.filter.proofs.Lines.{sized-le, long-le, slice-first}
+use Rattle.filter.proofs.Taken.{Told, turned-away, all-passed}
+use Rattle.filter.proofs.Closing.{propagatedOf, predicting, predicting-is, close-refused, close-made}
+use Rattle.filter.proofs.Filter.close_prediction.Statement.{statement}
+use Rattle.filter.proofs.Filter.close_prediction.Tie as tie
+
+abbrev asked : (c : tie.After-slice-refusal) → Told binary64 (c .before .before .before .before .args .self) (closing (close-prediction (now (c .before .before .before .before .args .points))))
+asked c = record { told = _; is = slice-first binary64 _ (c .slice-refusal .ensures) (c .before .before .is-predicting .ensures) (λ h. c .before .point-numbers .ensures ∙ within-both _ _ _ h h) }
+
+-- 1 to 8 states, and the numbers of their points
+sized-at : (c : tie.Else1) → c .before .before .before .before .before .args .self .n ≤ 8
+sized-at c = sized-le binary64 (all-passed (asked (c .before)) (c .if1 .left))
+
+counted : (c : tie.Else1) → c .before .before .point-numbers .result ≡ pointNumbers (c .before .before .before .before .before .args .self .n)
+counted c = c .before .before .point-numbers .ensures ∙ within-both _ _ _ (sized-at c) (sized-at c)
+
+points-requires : tie.Need-points-requires
+points-requires c κs = omega (arith, counted c, numbers-le _ _ (sized-at c) (sized-at c), long-le binary64 (all-passed (asked (c .before)) (c .if1 .left)))
+
+propagated-is : (c : tie.After-points) → c .points .result ≡ propagatedOf binary64 (c .before .before .before .before .before .before .args .self) (now (c .before .before .before .before .before .before .args .points))
+propagated-is c = c .points .ensures ∙ ap (λ (j : ℕ). front j (now (c .before .before .before .before .before .before .args .points)) (zeros 136)) (counted (c .before))
+
+made-is : (c : tie.After-reconstruct-prediction) → c .reconstruct-prediction .result ≡ moments (run (predicting binary64 (c .before .before .before .before .before .before .before .before .before .before .before .before .before .before .before .args .self) (now (c .before .before .before .before .before .before .before .before .before .before .before .before .before .before .before .args .points))))
+made-is c =
+    let s = c .before .before .before .before .before .before .before .before .before .before .before .before .before .before .before .args .self in
+    c .reconstruct-prediction .ensures ∙ ap₂ (λ (v : List Float) (w : Float). moments (predictOf binary64 (s .n) v w (s .«drawn_weights») (s .kinds) (s .q))) (propagated-is (c .before .before .before .before .before .before .before .before .before)) (c .before .before .before .before .before .before .before .center-weight .ensures)
+
+returns-2 : tie.Need-returns-2
+returns-2 c =
+    let d = c .before .before .before .before .before .before .before .before .before .before .before .before in
+    let s = c .before .before .before .before .before .before .before .before .before .before .before .before .before .before .before .before .before .args .self in
+    let v = now (c .before .before .before .before .before .before .before .before .before .before .before .before .before .before .before .before .before .args .points) in
+    close-refused (asked (d .before)) (d .if1 .left) (s .«drawn_weights») (propagatedOf binary64 s v) false (predicting binary64 s v) (predicting-is binary64 s v (all-passed (asked (d .before)) (d .if1 .left) .fits)) (made-is (c .before .before)) (c .if2 .taken)
+
+returns-3 : tie.Need-returns-3
+returns-3 c =
+    let d = c .before .before .before .before .before .before .before .before .before .before .before .before .before .before .before in
+    let s = c .before .before .before .before .before .before .before .before .before .before .before .before .before .before .before .before .before .before .before .before .args .self in
+    let v = now (c .before .before .before .before .before .before .before .before .before .before .before .before .before .before .before .before .before .before .before .before .args .points) in
+    let m = c .before .before .before .before .before .reconstruct-prediction .result in
+    close-made (asked (d .before)) (d .if1 .left) (s .«drawn_weights») (propagatedOf binary64 s v) false (predicting binary64 s v) (predicting-is binary64 s v (all-passed (asked (d .before)) (d .if1 .left) .fits)) (made-is (c .before .before .before .before .before)) (c .before .before .before .if2 .left)
+    (c .close .ensures ∙ ap (λ (u : List Float). close s (record { x = m .x; p = m .p; installed = record { weights = s .«drawn_weights»; points = u }; stale = false })) (propagated-is (c .before .before .before .before .before .before .before .before .before .before .before .before .before .before)))
+
+pub close-prediction-spec : {M : Type 1} → statement M
+close-prediction-spec =
+    tie.close
+    (tie.spec
+    (λ c κs. search needs)
+    (λ c κs. search needs)
+    (λ c κs. search needs)
+    (λ c. turned-away (asked (c .before)) (c .if1 .taken))
+    points-requires
+    (λ c κs. sized-at (c .before .before))
+    (λ c κs. sized-at (c .before .before .before .before .before .before .before .before .before))
+    returns-2
+    (λ c κs. search needs)
+    returns-3)

@@ -1,0 +1,24 @@
+-- `Filter::read_params` meets its contract. Assumes nothing.
+use mathlib.Core.Path.{refl, sym, ap, _∙_}
+use borrow.Author.Needs.{needs}
+use lib.Ieee.{ofBits, binary64}
+use Rattle.filter.specs.Calls.{reading, read-params}
+use Rattle.filter.specs.Steps.{Stepped, paramsRead}
+use Rattle.filter.proofs.Sizes.{and-true}
+use Rattle.filter.proofs.Order.{tested}
+use Rattle.filter.proofs.Taken.{Told, refused-before, finished, none}
+use Rattle.filter.proofs.Filter.read_params.Statement.{statement}
+use Rattle.filter.proofs.Filter.read_params.Tie as tie
+
+abbrev asked : (c : tie.After-first-refusal) → Told binary64 (c .before .before .args .self) (reading read-params)
+asked c = record { told = _; is = tested binary64 _ (c .first-refusal .ensures) refl (c .before .is-sized .ensures ∙ sym (and-true _)) (λ h. refl) refl (λ h. sym none) (λ h e. refl) }
+
+returns : tie.Need-returns
+unfolding ofBits
+returns c = ap (λ (t : Stepped). paramsRead (t .reply)) (sym (refused-before (asked (c .before)) (c .if1 .taken)))
+
+returns-2 : tie.Need-returns-2
+returns-2 c = ap (λ (t : Stepped). paramsRead (t .reply)) (sym (finished (asked (c .before .before)) (c .before .if1 .left) refl))
+
+pub read-params-spec : {M : Type 1} → statement M
+read-params-spec = tie.close (tie.spec (λ c κs. search needs) (λ c κs. search needs) returns returns-2)

@@ -1,0 +1,27 @@
+-- `Filter::read_q` meets its contract. Assumes nothing.
+use mathlib.Core.Path.{refl, _∙_}
+use borrow.Author.Needs.{needs}
+use native.Mathlib.Omega.{arith}
+use denote.Ref.{now}
+use lib.Ieee.{binary64}
+use mathlib.Core.Bool.{false}
+use Prim.Native.Nat.{_*_}
+use Rattle.filter.specs.Calls.{reading, read-q}
+use Rattle.filter.proofs.Sizes.{within-8, square-le}
+use Rattle.filter.proofs.Taken.{has-read}
+use Rattle.filter.proofs.Filter.read_q.Statement.{statement}
+use Rattle.filter.proofs.Filter.read_q.Tie as tie
+
+slice-aggregate-read : tie.Need-slice-aggregate-read
+slice-aggregate-read c = search needs
+
+read-requires : tie.Need-read-requires
+read-requires c κs = λ h. omega (arith, slice-aggregate-read (c .before), square-le _ h, c .before .before .before .square .ensures ∙ within-8 _ _ h)
+
+returns : tie.Need-returns
+returns c =
+    let s = c .before .before .before .before .before .before .before .before in
+    has-read binary64 (s .args .self) (reading (read-q (now (s .args .out)))) (s .args .self .n * s .args .self .n) false (now (s .args .out)) (s .args .self .q) (s .args .self .q) refl refl (λ z. refl) (λ h. c .before .before .before .before .before .before .square .ensures ∙ within-8 _ _ h) (c .before .before .read .ensures)
+
+pub read-q-spec : {M : Type 1} → statement M
+read-q-spec = tie.close (tie.spec (λ c κs. search needs) slice-aggregate-read read-requires (λ c. search needs) returns)

@@ -1,0 +1,28 @@
+-- `Filter::set_x` meets its contract. Assumes nothing.
+use mathlib.Core.Path.{refl}
+use borrow.Author.Needs.{needs}
+use native.Mathlib.Omega.{arith}
+use denote.Ref.{now}
+use lib.Ieee.{binary64}
+use Rattle.filter.specs.Filters.{x-set}
+use Rattle.filter.specs.Calls.{setting, set-x}
+use Rattle.filter.proofs.Lines.{sized-le, long-le, slice-first}
+use Rattle.filter.proofs.Taken.{Told, turned-away, all-passed, has-set}
+use Rattle.filter.proofs.Filter.set_x.Statement.{statement}
+use Rattle.filter.proofs.Filter.set_x.Tie as tie
+
+abbrev asked : (c : tie.After-slice-refusal) → Told binary64 (c .before .before .before .args .self) (setting (set-x (now (c .before .before .before .args .src))))
+asked c = record { told = _; is = slice-first binary64 _ (c .slice-refusal .ensures) (c .before .is-shut .ensures) (λ h. refl) }
+
+vector-requires : tie.Need-vector-requires
+vector-requires c κs = let p = all-passed (asked (c .before)) (c .if1 .left) in omega (arith, sized-le binary64 p, long-le binary64 p)
+
+pub set-x-spec : {M : Type 1} → statement M
+set-x-spec =
+    tie.close
+    (tie.spec
+    (λ c κs. search needs)
+    (λ c κs. search needs)
+    (λ c. turned-away (asked (c .before)) (c .if1 .taken))
+    vector-requires
+    (λ c. has-set (asked (c .before .before)) (c .before .if1 .left) x-set (c .vector .ensures) refl))

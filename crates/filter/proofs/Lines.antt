@@ -1,0 +1,96 @@
+-- Lines of the table of calls (`line` of specs/Calls.antt): what its tests say of n and of a slice, and counts of numbers that need only be right at sizes up to 8. Assumes nothing.
+use Prim.Native.Nat.{ℕ, _≤_, _*_}
+use mathlib.Core.Path.{_≡_, refl, sym, ap, _∙_}
+use mathlib.Core.Bool.{Bool, true, false, _&&_, cond}
+use mathlib.Core.List.{List, [], _∷_, _++_, append-assoc}
+use native.Mathlib.Omega.{arith}
+use borrow.Author.Tests.{leb-true}
+use lib.ListN.{length, take}
+use lib.Dec.{leb}
+use lib.Ieee.{Float, Format}
+use Rattle.floats.specs.Refusal.{Outcome, refusal}
+use Rattle.floats.specs.Numbers.{zeros, allFinite}
+use Rattle.floats.specs.Fronts.{front}
+use Rattle.floats.proofs.Finite.{all-append}
+use Rattle.filter.specs.Asked.{Size, Lent, Param, Asks, inRange, within, long, every, guarded, nothing, firstRefusal}
+use Rattle.filter.specs.Calls.{sized, lend, line}
+use Rattle.filter.proofs.Sizes.{and-left, and-right, range-le, within-8, square-le}
+use Rattle.filter.proofs.Order.{Passed}
+
+pub states-le : (n : ℕ) (sizes : List Size) → every within (record { value = n; from = 1; to = 8 } ∷ sizes) ≡ true → n ≤ 8
+states-le n sizes e = range-le 1 8 n (and-left (inRange 1 8 n) (every within sizes) e)
+
+pub measured-le : (n m : ℕ) → every within (record { value = n; from = 1; to = 8 } ∷ sized m 1 4) ≡ true → m ≤ 4
+measured-le n m e = range-le 1 4 m (and-left (inRange 1 4 m) true (and-right (inRange 1 8 n) (inRange 1 4 m && true) e))
+
+module _ (f : Format) {fits : Bool} {n : ℕ} {sizes : List Size} {stale : Bool} {inputs : List Float} {params : List Param} where
+  pub sized-le : {lent : List Lent} → Passed f (line fits n sizes lent stale inputs params) → n ≤ 8
+  sized-le p = states-le n sizes (p .sized)
+
+  pub long-le : {v : List Float} {k : ℕ} {lent : List Lent} → Passed f (line fits n sizes (record { slice = v; needs = k } ∷ lent) stale inputs params) → k ≤ length v
+  long-le {v} {k} {lent} p = leb-true k (length v) (and-left (leb k (length v)) (every long lent) (p .long))
+
+  pub three-long : {a b d : List Float} {i j k : ℕ} → Passed f (line fits n sizes (lend a i ++ (lend b j ++ lend d k)) stale inputs params) → (i ≤ length a) × (j ≤ length b) × (k ≤ length d)
+  three-long {a} {b} {d} {i} {j} {k} p =
+      let t = and-right (leb i (length a)) (leb j (length b) && (leb k (length d) && true)) (p .long) in
+      (long-le p, leb-true j (length b) (and-left (leb j (length b)) (leb k (length d) && true) t), leb-true k (length d) (and-left (leb k (length d)) true (and-right (leb j (length b)) (leb k (length d) && true) t)))
+
+-- ---- counts
+
+-- where the sizes don't do, nothing past them matters
+unsized : {A : Type 0} (f : Format) (a b : Asks) (o p : Outcome A) → a .fits ≡ b .fits → every within (a .sizes) ≡ false → every within (b .sizes) ≡ false → guarded f a o ≡ guarded f b p
+unfolding guarded
+unsized f a b o p e s t = rw (e, s, t)
+
+module _ {A : Type 0} (f : Format) (fits : Bool) (n : ℕ) (lent : ℕ → List Lent) (stale : Bool) (inputs : ℕ → List Float) (o : ℕ → Outcome A) where
+  pub counted : {j k : ℕ} → (n ≤ 8 → j ≡ k) → guarded f (line fits n [] (lent j) stale (inputs j) []) (o j) ≡ guarded f (line fits n [] (lent k) stale (inputs k) []) (o k)
+  counted {j} {k} h = go (every within (record { value = n; from = 1; to = 8 } ∷ [])) refl
+    where
+      go : (t : Bool) → every within (record { value = n; from = 1; to = 8 } ∷ []) ≡ t → guarded f (line fits n [] (lent j) stale (inputs j) []) (o j) ≡ guarded f (line fits n [] (lent k) stale (inputs k) []) (o k)
+      go true e = ap (λ (i : ℕ). guarded f (line fits n [] (lent i) stale (inputs i) []) (o i)) (h (states-le n [] e))
+      go false e = unsized f _ _ (o j) (o k) refl e e
+
+module _ (f : Format) (fits : Bool) (n : ℕ) (lent : ℕ → List Lent) (stale : Bool) (inputs : ℕ → List Float) where
+  pub counted-first : {j k : ℕ} → (n ≤ 8 → j ≡ k) → firstRefusal f (line fits n [] (lent j) stale (inputs j) []) ≡ firstRefusal f (line fits n [] (lent k) stale (inputs k) [])
+  unfolding firstRefusal
+  counted-first h = ap refusal (counted f fits n lent stale inputs (λ (i : ℕ). nothing) h)
+
+-- a call that takes in the first k numbers of one slice
+pub slice-first : (f : Format) (v : List Float) {r n j k : ℕ} {b fits : Bool} → r ≡ firstRefusal f (line b n [] (lend v j) false (take j v) []) → b ≡ fits → (n ≤ 8 → j ≡ k) → r ≡ firstRefusal f (line fits n [] (lend v k) false (take k v) [])
+slice-first f v {n = n} {j = j} {fits = fits} e d h =
+    e ∙ ap (λ (b : Bool). firstRefusal f (line b n [] (lend v j) false (take j v) [])) d ∙ counted-first f fits n (λ (i : ℕ). lend v i) false (λ (i : ℕ). take i v) h
+
+-- the same of a matrix of n·n numbers, counted by `square`: what is asked, that it is there, and what is made of it
+module _ (f : Format) (v : List Float) (n : ℕ) {k : ℕ} (e : k ≡ cond (leb n 8) (n * n) 0) {fits : Bool} where
+  pub matrix-first : {r : ℕ} {b : Bool} → r ≡ firstRefusal f (line b n [] (lend v k) false (take k v) []) → b ≡ fits → r ≡ firstRefusal f (line fits n [] (lend v (n * n)) false (take (n * n) v) [])
+  matrix-first d h = slice-first f v d h (λ g. e ∙ within-8 n (n * n) g)
+
+  module _ (p : Passed f (line fits n [] (lend v (n * n)) false (take (n * n) v) [])) where
+    pub matrix-in : (k ≤ length v) × (k ≤ 64)
+    matrix-in = let h = sized-le f p in omega (arith, e ∙ within-8 n (n * n) h, square-le n h, long-le f p)
+
+    pub matrix-is : {m : List Float} → m ≡ front k v (zeros 64) → m ≡ front (n * n) v (zeros 64)
+    matrix-is d = d ∙ ap (λ (j : ℕ). front j v (zeros 64)) (e ∙ within-8 n (n * n) (sized-le f p))
+
+-- ---- numbers that come in beside those of three slices
+
+module _ (a b c d : List Float) where
+  pub finite-last : (allFinite (a ++ (b ++ c)) && allFinite d) ≡ allFinite (a ++ (b ++ (c ++ d)))
+  finite-last = sym (all-append (a ++ (b ++ c)) d) ∙ ap allFinite (append-assoc a (b ++ c) d ∙ ap (λ (l : List Float). a ++ l) (append-assoc b c d))
+
+  pub third-finite : allFinite (a ++ (b ++ (d ++ c))) ≡ true → allFinite d ≡ true
+  third-finite e =
+      let f = and-right (allFinite a) (allFinite (b ++ (d ++ c))) (sym (all-append a (b ++ (d ++ c))) ∙ e) in
+      let g = and-right (allFinite b) (allFinite (d ++ c)) (sym (all-append b (d ++ c)) ∙ f) in
+      and-left (allFinite d) (allFinite c) (sym (all-append d c) ∙ g)
+
+  pub finite-third : (allFinite (a ++ (b ++ c)) && allFinite d) ≡ allFinite (a ++ (b ++ (d ++ c)))
+  finite-third = rw (all-append a (b ++ c), all-append b c, all-append a (b ++ (d ++ c)), all-append b (d ++ c), all-append d c) (third (allFinite a) (allFinite b) (allFinite c) (allFinite d))
+    where
+      third : (x y z t : Bool) → ((x && (y && z)) && t) ≡ (x && (y && (t && z)))
+      third true true true true = refl
+      third true true true false = refl
+      third true true false true = refl
+      third true true false false = refl
+      third true false z t = refl
+      third false y z t = refl

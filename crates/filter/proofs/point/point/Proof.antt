@@ -1,0 +1,47 @@
+-- `point::point` meets its contract. Assumes nothing.
+use mathlib.Core.Path.{_≡_, sym, _∙_}
+use borrow.Author.Needs.{needs}
+use borrow.Author.Tests.{eq-eqb, ne-eqb}
+use native.Mathlib.Omega.{arith}
+use denote.Ref.{now}
+use lib.Ieee.{binary64}
+use Rattle.filter.specs.Point.{pointRefusal, pointPlace}
+use Rattle.filter.proofs.Points.{within, part, none}
+use Rattle.filter.proofs.point.point.Statement.{statement}
+use Rattle.filter.proofs.point.point.Tie as tie
+
+taken : (c : tie.Then1) → pointRefusal binary64 (now (c .before .before .before .args .list)) (c .before .before .before .args .n) (c .before .before .before .args .k) ≡ 0
+taken c = sym (c .before .point-refusal .ensures) ∙ c .if1 .taken
+
+mul-result : tie.Need-mul-result
+mul-result c = omega (arith, within binary64 _ _ _ (taken c), c .before .before .before .good .0 .1)
+
+part-result-end : tie.Need-part-result-end
+part-result-end c = within binary64 _ _ _ (taken c)
+
+returns : tie.Need-returns
+unfolding pointPlace
+returns c = (part binary64 _ _ _ (taken (c .before)), simp (eq-eqb _ _ (taken (c .before))))
+
+returns-2 : tie.Need-returns-2
+unfolding pointPlace
+returns-2 c =
+    let d = c .before in
+    (sym (none binary64 _ _ _ (λ h. d .if1 .left (d .before .point-refusal .ensures ∙ h))), simp (ne-eqb _ _ (λ h. d .if1 .left (d .before .point-refusal .ensures ∙ h))))
+
+pub point-spec : {M : Type 1} → statement M
+point-spec =
+    tie.close
+    (tie.spec
+    (λ c κs. search needs)
+    (λ c. omega (arith, within binary64 _ _ _ (taken c)))
+    (λ c. omega (arith, within binary64 _ _ _ (taken c)))
+    mul-result
+    (λ c. search needs)
+    (λ c. search needs)
+    part-result-end
+    returns
+    (λ c. search needs)
+    (λ c. search needs)
+    (λ c. search needs)
+    returns-2)

@@ -1,0 +1,87 @@
+-- What a call asks, a field for each row of document 01's table of refusals, and the order in which the rows are tried. Definitions only.
+use Prim.Native.Nat.{ℕ}
+use mathlib.Core.Bool.{Bool, true, false, not, _&&_}
+use mathlib.Core.List.{List, [], _∷_}
+use lib.ListN.{length}
+use lib.Dec.{leb, eqb}
+use lib.Ieee.{Float, Format}
+use Rattle.floats.specs.Refusal.{SIZE, SHORT, STAGE, STALE, NUMBER, PARAM, Outcome, accepted, refusal, unless}
+use Rattle.floats.specs.Numbers.{allFinite}
+use Rattle.angles.specs.Kinds.{passes, kindOf}
+use Rattle.angles.specs.declared.Kind.{Kind}
+use Rattle.sigma.specs.Weights.{weightsPass}
+use Rattle.sigma.specs.declared.Params.{Params}
+
+-- 1: a number that has to lie in a range
+pub record Size : Type 0 where
+  pub value : ℕ
+  pub from : ℕ
+  pub to : ℕ
+
+-- 2: a lent slice, and how many numbers of it the call needs
+pub record Lent : Type 0 where
+  pub slice : List Float
+  pub needs : ℕ
+
+-- 6: what has to pass it, the parameters of n states or a kind
+pub data Param : Type 0 where
+  by-params : ℕ → Params → Param
+  by-kind : Kind → Param
+
+pub record Asks : Type 0 where
+  -- 3: whether the call fits what is open
+  pub fits : Bool
+  pub sizes : List Size
+  pub lent : List Lent
+  -- 4: whether points are read while stale
+  pub stale : Bool
+  -- 5: the numbers that come in
+  pub inputs : List Float
+  pub params : List Param
+
+-- ---- the tests
+
+unfoldable pub inRange : ℕ → ℕ → ℕ → Bool
+inRange from to n = leb from n && leb n to
+
+abbrev pub within : Size → Bool
+within s = inRange (s .from) (s .to) (s .value)
+
+abbrev pub long : Lent → Bool
+long l = leb (l .needs) (length (l .slice))
+
+abbrev pub fit : Format → Param → Bool
+fit f (by-params n p) = weightsPass f n p
+fit f (by-kind k) = passes f (k .residual)
+
+-- whether the check of a kind gives another number than r
+abbrev pub clear : Format → ℕ → Kind → Bool
+clear f r k = not (eqb (refusal (kindOf f k)) r)
+
+abbrev pub every : {A : Type 0} → (A → Bool) → List A → Bool
+every t [] = true
+every t (x ∷ l) = t x && every t l
+
+-- ---- the order: 3, 1, 2, 4, 5, 6, then what the steps o come to (7, 8 and 9 as they meet them)
+
+unfoldable pub inOrder : {A : Type 0} → Bool → Bool → Bool → Bool → Bool → Bool → Outcome A → Outcome A
+inOrder fits sized long stale finite passing o =
+    unless fits STAGE
+    (unless sized SIZE
+    (unless long SHORT
+    (unless (not stale) STALE
+    (unless finite NUMBER
+    (unless passing PARAM
+    o)))))
+
+unfoldable pub guarded : {A : Type 0} → Format → Asks → Outcome A → Outcome A
+unfolding inOrder
+guarded f a o = inOrder (a .fits) (every within (a .sizes)) (every long (a .lent)) (a .stale) (allFinite (a .inputs)) (every (fit f) (a .params)) o
+
+-- the number that these tests give by themselves, 0 where all pass
+abbrev pub nothing : Outcome Bool
+nothing = accepted true
+
+unfoldable pub firstRefusal : Format → Asks → ℕ
+unfolding guarded
+firstRefusal f a = refusal (guarded f a nothing)

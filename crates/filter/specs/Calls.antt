@@ -1,0 +1,157 @@
+-- THE TABLE OF CALLS: what each call asks, and what it does once nothing is refused before the steps. s is the filter as seen. Definitions only.
+use Prim.Native.Nat.{ℕ, _+_, _-_, _*_}
+use mathlib.Core.Bool.{Bool, true, false, not, cond}
+use mathlib.Core.List.{List, [], _∷_, _++_}
+use lib.ListN.{take, set}
+use lib.Ieee.{Float, Format}
+use Rattle.floats.specs.Numbers.{zeros}
+use Rattle.floats.specs.Fronts.{front}
+use Rattle.angles.specs.Kinds.{numbersIn}
+use Rattle.angles.specs.declared.Kind.{Kind}
+use Rattle.matrix.specs.Results.{Plan, finish, mapped}
+use Rattle.sigma.specs.declared.Params.{Params}
+use Rattle.sigma.specs.Weights.{scaleOf, w0mOf, weightsOf}
+use Rattle.sigma.specs.Draw.{pointNumbers, drawPlan}
+use Rattle.sigma.specs.Predict.{Moment, predictPlan}
+use Rattle.correction.specs.Leaves.{widened}
+use Rattle.correction.specs.Correct.{given, correctPlan}
+use Rattle.filter.specs.declared.Stage.{Stage}
+use Rattle.filter.specs.declared.Stage.the-variants.{Shut, Predicting, Correcting}
+use Rattle.filter.specs.declared.Weighted.{Weighted}
+use Rattle.filter.specs.declared.Filter.{Filter}
+use Rattle.filter.specs.Asked.{Size, Lent, Param, by-params, by-kind, Asks}
+use Rattle.filter.specs.Filters.{isShut, isPredicting, isCorrecting, Setting, x-set, p-set, q-set, params-set, kinds-set, opened-prediction, opened-correction, Closing, Change, sets, closes, abandons, reads}
+
+-- ---- the calls with their inputs, by what may be open when they are taken: nothing; their own; anything. A list is a lent slice.
+
+pub data SetCall : Type 0 where
+  set-x set-p set-q : List Float → SetCall
+  set-params : Params → SetCall
+  set-kind : ℕ → Kind → SetCall
+  open-prediction open-correction : List Float → SetCall
+
+pub data CloseCall : Type 0 where
+  close-prediction : List Float → CloseCall
+  -- m, z, R, the four measurement kinds, the observed points
+  close-correction : ℕ → List Float → List Float → List Kind → List Float → CloseCall
+
+pub data ReadCall : Type 0 where
+  read-x read-p read-q read-points : List Float → ReadCall
+  read-params read-stale : ReadCall
+
+pub data Call : Type 0 where
+  setting : SetCall → Call
+  closing : CloseCall → Call
+  abandon : Call
+  reading : ReadCall → Call
+
+-- the open call that leads to a stage; none leads to nothing open
+abbrev pub opening : Stage → List Float → Call
+opening Shut b = setting (open-prediction b)
+opening Predicting b = setting (open-prediction b)
+opening Correcting b = setting (open-correction b)
+
+-- ---- 3: while a call is open only its own close, abandon and the readings are taken
+
+abbrev pub ownOpen : CloseCall → Stage → Bool
+ownOpen (close-prediction points) t = isPredicting t
+ownOpen (close-correction m z r kinds observed) t = isCorrecting t
+
+abbrev pub fits : Call → Stage → Bool
+fits (setting c) t = isShut t
+fits (closing c) t = ownOpen c t
+fits abandon t = not (isShut t)
+fits (reading c) t = true
+
+-- ---- what each call asks beside that and 1 to 8 states: sizes; lent slices with how much of each is needed; whether stale stops it; the numbers that come in; what has to pass 6
+
+abbrev pub sized : ℕ → ℕ → ℕ → List Size
+sized v from to = record { value = v; from = from; to = to } ∷ []
+
+abbrev pub lend : List Float → ℕ → List Lent
+lend slice needs = record { slice = slice; needs = needs } ∷ []
+
+abbrev pub inKinds : List Kind → List Float
+inKinds [] = []
+inKinds (k ∷ ks) = numbersIn (k .residual) ++ inKinds ks
+
+abbrev pub asKinds : List Kind → List Param
+asKinds [] = []
+asKinds (k ∷ ks) = by-kind k ∷ asKinds ks
+
+abbrev pub line : Bool → ℕ → List Size → List Lent → Bool → List Float → List Param → Asks
+line fits n sizes lent stale inputs params = record { fits = fits; sizes = record { value = n; from = 1; to = 8 } ∷ sizes; lent = lent; stale = stale; inputs = inputs; params = params }
+
+-- the numbers of 2n+1 observed points of m
+abbrev pub observedNumbers : ℕ → ℕ → ℕ
+observedNumbers n m = (n + n + 1) * m
+
+abbrev pub asks : Filter → Call → Asks
+asks s (setting (set-x v)) = line (isShut (s .stage)) (s .n) [] (lend v (s .n)) false (take (s .n) v) []
+asks s (setting (set-p v)) = line (isShut (s .stage)) (s .n) [] (lend v (s .n * s .n)) false (take (s .n * s .n) v) []
+asks s (setting (set-q v)) = line (isShut (s .stage)) (s .n) [] (lend v (s .n * s .n)) false (take (s .n * s .n) v) []
+asks s (setting (set-params p)) = line (isShut (s .stage)) (s .n) [] [] false (p .alpha ∷ p .beta ∷ p .kappa ∷ []) (by-params (s .n) p ∷ [])
+asks s (setting (set-kind i k)) = line (isShut (s .stage)) (s .n) (sized i 0 (s .n - 1)) [] false (numbersIn (k .residual)) (by-kind k ∷ [])
+asks s (setting (open-prediction b)) = line (isShut (s .stage)) (s .n) [] (lend b (pointNumbers (s .n))) false [] []
+asks s (setting (open-correction b)) = line (isShut (s .stage)) (s .n) [] (lend b (pointNumbers (s .n))) false [] []
+asks s (closing (close-prediction v)) = line (isPredicting (s .stage)) (s .n) [] (lend v (pointNumbers (s .n))) false (take (pointNumbers (s .n)) v) []
+asks s (closing (close-correction m z r kinds observed)) =
+    line (isCorrecting (s .stage)) (s .n) (sized m 1 4)
+    (lend z m ++ (lend r (m * m) ++ lend observed (observedNumbers (s .n) m)))
+    false
+    (take m z ++ (take (m * m) r ++ (inKinds (take m kinds) ++ take (observedNumbers (s .n) m) observed)))
+    (asKinds (take m kinds))
+asks s abandon = line (not (isShut (s .stage))) (s .n) [] [] false [] []
+asks s (reading (read-x b)) = line true (s .n) [] (lend b (s .n)) false [] []
+asks s (reading (read-p b)) = line true (s .n) [] (lend b (s .n * s .n)) false [] []
+asks s (reading (read-q b)) = line true (s .n) [] (lend b (s .n * s .n)) false [] []
+asks s (reading (read-points b)) = line true (s .n) [] (lend b (pointNumbers (s .n))) (s .stale) [] []
+asks s (reading read-params) = line true (s .n) [] [] false [] []
+asks s (reading read-stale) = line true (s .n) [] [] false [] []
+
+-- ---- what a call does once taken: its change, the numbers that it hands out, and what a reading of the stale mark answers (elsewhere true, which tells nothing)
+
+pub record Done : Type 0 where
+  pub change : Change
+  pub given : List Float
+  pub stale : Bool
+
+abbrev pub done : Change → List Float → Done
+done c given = record { change = c; given = given; stale = true }
+
+-- the points drawn with their weights, or the current ones, written out
+abbrev pub opened : (Weighted → Setting) → ℕ → List Float → List Float → Done
+opened to n weights points = done (sets (to (record { weights = weights; points = points }))) (take (pointNumbers n) points)
+
+-- x and P set, points and weights installed
+abbrev pub closed : List Float → List Float → Bool → Moment → Done
+closed weights points stale m = done (closes (record { x = m .x; p = m .p; installed = record { weights = weights; points = points }; stale = stale })) []
+
+module _ (f : Format) where
+  -- weights and points drawn afresh
+  abbrev pub draws : (Weighted → Setting) → Filter → Plan Done
+  draws to s = mapped (opened to (s .n) (weightsOf f (s .n) (s .params))) (drawPlan f (s .n) (s .x) (s .p) (scaleOf f (s .n) (s .params)))
+
+  abbrev pub plan : Filter → Call → Plan Done
+  plan s (setting (set-x v)) = finish (done (sets (x-set (front (s .n) v (zeros 8)))) [])
+  plan s (setting (set-p v)) = finish (done (sets (p-set (front (s .n * s .n) v (zeros 64)))) [])
+  plan s (setting (set-q v)) = finish (done (sets (q-set (front (s .n * s .n) v (zeros 64)))) [])
+  plan s (setting (set-params p)) = finish (done (sets (params-set p)) [])
+  plan s (setting (set-kind i k)) = finish (done (sets (kinds-set (set (s .kinds) i k))) [])
+  plan s (setting (open-prediction b)) = draws opened-prediction s
+  plan s (setting (open-correction b)) = cond (s .stale) (draws opened-correction s) (finish (opened opened-correction (s .n) (s .weights) (s .points)))
+  plan s (closing (close-prediction v)) =
+      let points = front (pointNumbers (s .n)) v (zeros 136) in
+      mapped (closed (s .«drawn_weights») points false) (predictPlan f (s .n) points (w0mOf f (s .n) (s .params)) (s .«drawn_weights») (s .kinds) (s .q))
+  plan s (closing (close-correction m z r kinds observed)) =
+      mapped (closed (s .«drawn_weights») (s .«drawn_points») true)
+      (correctPlan f
+      (given (s .n) m (s .x) (s .p) (s .«drawn_points») (front (observedNumbers (s .n) m) observed (zeros 136)) (w0mOf f (s .n) (s .params)) (s .«drawn_weights») (front m z (zeros 8)) (front (m * m) r (zeros 64)) (s .kinds)
+      (widened kinds)))
+  plan s abandon = finish (done abandons [])
+  plan s (reading (read-x b)) = finish (done reads (take (s .n) (s .x)))
+  plan s (reading (read-p b)) = finish (done reads (take (s .n * s .n) (s .p)))
+  plan s (reading (read-q b)) = finish (done reads (take (s .n * s .n) (s .q)))
+  plan s (reading (read-points b)) = finish (done reads (take (pointNumbers (s .n)) (s .points)))
+  plan s (reading read-params) = finish (done reads (s .params .alpha ∷ s .params .beta ∷ s .params .kappa ∷ []))
+  plan s (reading read-stale) = finish (record { change = reads; given = []; stale = s .stale })

@@ -1,0 +1,6 @@
+pub mod Asked
+pub mod Filters
+pub mod Calls
+pub mod Steps
+pub mod New
+pub mod Point

@@ -1,0 +1,34 @@
+-- Point k of a lent list: numbers kn up to kn+n of the list itself. Definitions only.
+use Prim.Native.Nat.{ℕ, _+_, _*_}
+use mathlib.Core.Bool.{true, false, cond}
+use mathlib.Core.List.{List, []}
+use lib.ListN.{take, drop}
+use lib.Dec.{eqb}
+use lib.Ieee.{Float, Format}
+use Rattle.floats.specs.Refusal.{Outcome, accepted, refusal, or}
+use Rattle.sigma.specs.Draw.{pointNumbers}
+use Rattle.filter.specs.Asked.{Asks, guarded}
+use Rattle.filter.specs.Calls.{sized, lend, line}
+
+module _ (f : Format) (l : List Float) (n k : ℕ) where
+  -- it needs the whole n(2n+1) numbers and doesn't judge them
+  abbrev pub pointAsks : Asks
+  pointAsks = line true n (sized k 0 (n + n)) (lend l (pointNumbers n)) false [] []
+
+  unfoldable pub pointAt : Outcome (List Float)
+  unfolding guarded
+  pointAt = guarded f pointAsks (accepted (take n (drop (k * n) l)))
+
+  unfoldable pub pointRefusal : ℕ
+  unfolding pointAt
+  pointRefusal = refusal pointAt
+
+  -- a refusal hands back an empty part
+  unfoldable pub pointOf : List Float
+  unfolding pointAt
+  pointOf = or [] pointAt
+
+  -- where the part begins: a block, and an offset in bytes, 8 for each number before it; of a refusal, where the list begins
+  unfoldable pub pointPlace : ℕ × ℕ → ℕ × ℕ
+  unfolding pointRefusal
+  pointPlace at = (at .0, cond (eqb pointRefusal 0) (k * n * 8 + at .1) (0 * 8 + at .1))

@@ -1,0 +1,60 @@
+// The filter and its calls.
+use angles::Kind;
+use sigma::Params;
+
+pub mod closes;
+mod drawn;
+mod fronts;
+pub mod new;
+pub mod opens;
+pub mod point;
+pub mod readings;
+pub mod setters;
+mod tests;
+
+// What is open.
+pub enum Stage {
+    Shut,
+    Predicting,
+    Correcting,
+}
+
+// The points of a filter with their weights.
+pub struct Weighted {
+    pub weights: [f64; 17],
+    pub points: [f64; 136],
+}
+
+// A filter of n states: flat arrays sized for 8. Unused places hold +0; while nothing is open, so do the places of what an open call has drawn.
+pub struct Filter {
+    pub n: usize,
+    pub x: [f64; 8],
+    pub p: [f64; 64],
+    pub q: [f64; 64],
+    pub params: Params,
+    pub kinds: [Kind; 8],
+    pub weights: [f64; 17],
+    pub points: [f64; 136],
+    pub stale: bool,
+    pub stage: Stage,
+    pub drawn_weights: [f64; 17],
+    pub drawn_points: [f64; 136],
+}
+
+// The next filter with the answer number.
+pub struct Answer {
+    pub filter: Filter,
+    pub refusal: u8,
+}
+
+// What a reading of the parameters answers.
+pub struct ParamsRead {
+    pub refusal: u8,
+    pub params: Params,
+}
+
+// What a reading of the stale mark answers.
+pub struct StaleRead {
+    pub refusal: u8,
+    pub stale: bool,
+}

@@ -1,0 +1,108 @@
+// Open prediction and open correction, and abandon: what an open call has drawn is kept beside the filter as it was.
+ghost use mathlib.Core.Path.{_≡_};
+ghost use mathlib.Core.Bool.{false};
+ghost use Prim.Native.Nat.{_≤_};
+ghost use lib.ListN.{length, take};
+ghost use lib.Ieee.{binary64};
+ghost use Rattle.floats.specs.Fronts.{over};
+ghost use Rattle.sigma.specs.Draw.{pointNumbers};
+ghost use Rattle.filter.specs.Filters.{isShut, withDrawn};
+ghost use Rattle.filter.specs.Calls.{setting, open-prediction, open-correction, opening, abandon};
+ghost use Rattle.filter.specs.Steps.{step, answered};
+use crate::Answer;
+use crate::Filter;
+use crate::Stage;
+use crate::Weighted;
+use crate::drawn;
+use crate::fronts;
+use crate::tests;
+use sigma::draw;
+use sigma::weights;
+
+impl Filter {
+    // The call is open, and its points are written out.
+    fn opened(self, stage: Stage, d: Weighted, out: &mut [f64]) -> Answer
+        requires { ⌜ (self .n ≤ 8) × (pointNumbers (self .n) ≤ length (now out)) ⌝ }
+        ensures { λ r. ⌜ r ≡ record { filter = withDrawn self stage d; refusal = 0 } ⌝ }
+        ensures { λ r. ⌜ now (out .exit) ≡ over (take (pointNumbers (self .n)) (d .points)) (now (out .entry)) ⌝ }
+    {
+        let n = self.n;
+        let k = tests::point_numbers(n, n);
+        let points = d.points;
+        fronts::copy_front(&points, k, out);
+        let filter = drawn::with_drawn(self, stage, d);
+        Answer { filter, refusal: 0 }
+    }
+
+    // An open call by the stage that it leads to. A correction that isn't stale has the current weights and points; else they are drawn afresh.
+    fn open(self, stage: Stage, out: &mut [f64]) -> Answer
+        requires { ⌜ isShut stage ≡ false ⌝ }
+        ensures { λ r. ⌜ r ≡ answered (step binary64 self (opening stage (now (out .entry)))) ⌝ }
+        ensures { λ r. ⌜ now (out .exit) ≡ over (step binary64 self (opening stage (now (out .entry))) .reply .given) (now (out .entry)) ⌝ }
+    {
+        let n = self.n;
+        let before = self.stage;
+        let shut = tests::is_shut(before);
+        let sized = tests::is_sized(n);
+        let k = tests::point_numbers(n, n);
+        let refusal = tests::first_refusal(shut, sized, k <= out.len(), false, true, true);
+        if refusal != 0 {
+            return Answer {
+                filter: self,
+                refusal,
+            };
+        }
+        let correcting = tests::is_correcting(stage);
+        if tests::both(correcting, !self.stale) {
+            let weights = self.weights;
+            let points = self.points;
+            return self.opened(stage, Weighted { weights, points }, out);
+        }
+        let x = self.x;
+        let p = self.p;
+        let params = self.params;
+        let scale = weights::scale(n, params);
+        let d = draw::generate_sigma_points(n, &x, &p, scale);
+        if d.refusal != 0 {
+            return Answer {
+                filter: self,
+                refusal: d.refusal,
+            };
+        }
+        let weights = weights::weights(n, params);
+        let points = d.points;
+        self.opened(stage, Weighted { weights, points }, out)
+    }
+
+    pub fn open_prediction(self, out: &mut [f64]) -> Answer
+        ensures { λ r. ⌜ r ≡ answered (step binary64 self (setting (open-prediction (now (out .entry))))) ⌝ }
+        ensures { λ r. ⌜ now (out .exit) ≡ over (step binary64 self (setting (open-prediction (now (out .entry)))) .reply .given) (now (out .entry)) ⌝ }
+    {
+        self.open(Stage::Predicting, out)
+    }
+
+    pub fn open_correction(self, out: &mut [f64]) -> Answer
+        ensures { λ r. ⌜ r ≡ answered (step binary64 self (setting (open-correction (now (out .entry))))) ⌝ }
+        ensures { λ r. ⌜ now (out .exit) ≡ over (step binary64 self (setting (open-correction (now (out .entry)))) .reply .given) (now (out .entry)) ⌝ }
+    {
+        self.open(Stage::Correcting, out)
+    }
+
+    pub fn abandon(self) -> Answer
+        ensures { λ r. ⌜ r ≡ answered (step binary64 self abandon) ⌝ }
+    {
+        let n = self.n;
+        let stage = self.stage;
+        let shut = tests::is_shut(stage);
+        let sized = tests::is_sized(n);
+        let refusal = tests::first_refusal(!shut, sized, true, false, true, true);
+        if refusal != 0 {
+            return Answer {
+                filter: self,
+                refusal,
+            };
+        }
+        let filter = drawn::shut(self);
+        Answer { filter, refusal: 0 }
+    }
+}

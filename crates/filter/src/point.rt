@@ -1,0 +1,28 @@
+// Point k of a lent list: that part of the list itself, and a sister call that gives the number.
+ghost use mathlib.Core.Path.{_≡_};
+ghost use lib.Ieee.{binary64};
+ghost use denote.Ref.{ptr};
+ghost use Rattle.filter.specs.Point.{pointRefusal, pointOf, pointPlace};
+use crate::tests;
+
+pub fn point_refusal(list: &[f64], n: usize, k: usize) -> u8
+    ensures { λ r. ⌜ r ≡ pointRefusal binary64 (now (list .entry)) n k ⌝ }
+{
+    let states = tests::is_sized(n);
+    let last = tests::last_point(n);
+    let sized = tests::both(states, k <= last);
+    let numbers = tests::point_numbers(n, n);
+    tests::first_refusal(true, sized, numbers <= list.len(), false, true, true)
+}
+
+pub fn point(list: &[f64], n: usize, k: usize) -> &[f64]
+    ensures { λ r. ⌜ now r ≡ pointOf binary64 (now (list .entry)) n k ⌝ }
+    ensures { λ r. ⌜ ptr r ≡ pointPlace binary64 (now (list .entry)) n k (ptr (list .entry)) ⌝ }
+{
+    if point_refusal(list, n, k) == 0 {
+        let a = k * n;
+        let e = a + n;
+        return &list[a..e];
+    }
+    &list[0..0]
+}

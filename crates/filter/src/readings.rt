@@ -1,0 +1,110 @@
+// Readings, at any time, into lent buffers or as values; the current points only when not stale.
+ghost use mathlib.Core.Path.{_≡_};
+ghost use mathlib.Core.Bool.{true, Bool};
+ghost use mathlib.Core.List.{[]};
+ghost use Prim.Native.Nat.{_≤_};
+ghost use lib.ListN.{length, take};
+ghost use lib.Ieee.{binary64};
+ghost use Rattle.floats.specs.Refusal.{accepted, or};
+ghost use Rattle.floats.specs.Fronts.{over};
+ghost use Rattle.filter.specs.Asked.{inRange, guarded, firstRefusal};
+ghost use Rattle.filter.specs.Calls.{line, lend, reading, read-x, read-p, read-q, read-points, read-params, read-stale};
+ghost use Rattle.filter.specs.Steps.{step, paramsRead, staleRead};
+use crate::Filter;
+use crate::ParamsRead;
+use crate::StaleRead;
+use crate::fronts;
+use crate::tests;
+use sigma::Params;
+
+// A reading of the first k numbers of s, stopped where they are stale.
+fn read(n: usize, k: usize, stale: bool, s: &[f64], out: &mut [f64]) -> u8
+    requires { ⌜ (n ≤ 8 → k ≤ length (now s)) ⌝ }
+    ensures { λ r. ⌜ r ≡ firstRefusal binary64 (line true n [] (lend (now (out .entry)) k) stale [] []) ⌝ }
+    ensures { λ r. ⌜ now (out .exit) ≡ over (or [] (guarded binary64 (line true n [] (lend (now (out .entry)) k) stale [] []) (accepted (take k (now (s .entry)))))) (now (out .entry)) ⌝ }
+{
+    let sized = tests::is_sized(n);
+    let refusal = tests::first_refusal(true, sized, k <= out.len(), stale, true, true);
+    if refusal != 0 {
+        return refusal;
+    }
+    fronts::copy_front(s, k, out);
+    0
+}
+
+impl Filter {
+    pub fn read_x(self, out: &mut [f64]) -> u8
+        ensures { λ r. ⌜ r ≡ step binary64 self (reading (read-x (now (out .entry)))) .reply .refusal ⌝ }
+        ensures { λ r. ⌜ now (out .exit) ≡ over (step binary64 self (reading (read-x (now (out .entry)))) .reply .given) (now (out .entry)) ⌝ }
+    {
+        let n = self.n;
+        let x = self.x;
+        read(n, n, false, &x, out)
+    }
+
+    pub fn read_p(self, out: &mut [f64]) -> u8
+        ensures { λ r. ⌜ r ≡ step binary64 self (reading (read-p (now (out .entry)))) .reply .refusal ⌝ }
+        ensures { λ r. ⌜ now (out .exit) ≡ over (step binary64 self (reading (read-p (now (out .entry)))) .reply .given) (now (out .entry)) ⌝ }
+    {
+        let n = self.n;
+        let k = tests::square(n);
+        let p = self.p;
+        read(n, k, false, &p, out)
+    }
+
+    pub fn read_q(self, out: &mut [f64]) -> u8
+        ensures { λ r. ⌜ r ≡ step binary64 self (reading (read-q (now (out .entry)))) .reply .refusal ⌝ }
+        ensures { λ r. ⌜ now (out .exit) ≡ over (step binary64 self (reading (read-q (now (out .entry)))) .reply .given) (now (out .entry)) ⌝ }
+    {
+        let n = self.n;
+        let k = tests::square(n);
+        let q = self.q;
+        read(n, k, false, &q, out)
+    }
+
+    pub fn read_points(self, out: &mut [f64]) -> u8
+        ensures { λ r. ⌜ r ≡ step binary64 self (reading (read-points (now (out .entry)))) .reply .refusal ⌝ }
+        ensures { λ r. ⌜ now (out .exit) ≡ over (step binary64 self (reading (read-points (now (out .entry)))) .reply .given) (now (out .entry)) ⌝ }
+    {
+        let n = self.n;
+        let k = tests::point_numbers(n, n);
+        let points = self.points;
+        read(n, k, self.stale, &points, out)
+    }
+
+    pub fn read_params(self) -> ParamsRead
+        ensures { λ r. ⌜ r ≡ paramsRead (step binary64 self (reading read-params) .reply) ⌝ }
+    {
+        let n = self.n;
+        let sized = tests::is_sized(n);
+        let refusal = tests::first_refusal(true, sized, true, false, true, true);
+        if refusal != 0 {
+            let params = Params {
+                alpha: 0.0,
+                beta: 0.0,
+                kappa: 0.0,
+            };
+            return ParamsRead { refusal, params };
+        }
+        let params = self.params;
+        ParamsRead { refusal: 0, params }
+    }
+
+    pub fn read_stale(self) -> StaleRead
+        ensures { λ r. ⌜ r ≡ staleRead (step binary64 self (reading read-stale) .reply) ⌝ }
+    {
+        let n = self.n;
+        let sized = tests::is_sized(n);
+        let refusal = tests::first_refusal(true, sized, true, false, true, true);
+        if refusal != 0 {
+            return StaleRead {
+                refusal,
+                stale: true,
+            };
+        }
+        StaleRead {
+            refusal: 0,
+            stale: self.stale,
+        }
+    }
+}

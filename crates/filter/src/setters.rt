@@ -1,0 +1,129 @@
+// Set x, P, Q, the parameters and a kind. None of them touches the stale mark, points or weights.
+ghost use mathlib.Core.Path.{_≡_};
+ghost use lib.Ieee.{binary64};
+ghost use Rattle.filter.specs.Calls.{setting, set-x, set-p, set-q, set-params, set-kind};
+ghost use Rattle.filter.specs.Steps.{step, answered};
+use crate::Answer;
+use crate::Filter;
+use crate::fronts;
+use crate::tests;
+use angles::Kind;
+use sigma::Params;
+
+impl Filter {
+    pub fn set_x(self, src: &[f64]) -> Answer
+        ensures { λ r. ⌜ r ≡ answered (step binary64 self (setting (set-x (now (src .entry))))) ⌝ }
+    {
+        let n = self.n;
+        let stage = self.stage;
+        let shut = tests::is_shut(stage);
+        let refusal = tests::slice_refusal(shut, n, n, src);
+        if refusal != 0 {
+            return Answer {
+                filter: self,
+                refusal,
+            };
+        }
+        let x = fronts::vector(src, n);
+        let mut f = self;
+        f.x = x;
+        Answer {
+            filter: f,
+            refusal: 0,
+        }
+    }
+
+    pub fn set_p(self, src: &[f64]) -> Answer
+        ensures { λ r. ⌜ r ≡ answered (step binary64 self (setting (set-p (now (src .entry))))) ⌝ }
+    {
+        let n = self.n;
+        let stage = self.stage;
+        let shut = tests::is_shut(stage);
+        let k = tests::square(n);
+        let refusal = tests::slice_refusal(shut, n, k, src);
+        if refusal != 0 {
+            return Answer {
+                filter: self,
+                refusal,
+            };
+        }
+        let p = fronts::matrix(src, k);
+        let mut f = self;
+        f.p = p;
+        Answer {
+            filter: f,
+            refusal: 0,
+        }
+    }
+
+    pub fn set_q(self, src: &[f64]) -> Answer
+        ensures { λ r. ⌜ r ≡ answered (step binary64 self (setting (set-q (now (src .entry))))) ⌝ }
+    {
+        let n = self.n;
+        let stage = self.stage;
+        let shut = tests::is_shut(stage);
+        let k = tests::square(n);
+        let refusal = tests::slice_refusal(shut, n, k, src);
+        if refusal != 0 {
+            return Answer {
+                filter: self,
+                refusal,
+            };
+        }
+        let q = fronts::matrix(src, k);
+        let mut f = self;
+        f.q = q;
+        Answer {
+            filter: f,
+            refusal: 0,
+        }
+    }
+
+    pub fn set_params(self, params: Params) -> Answer
+        ensures { λ r. ⌜ r ≡ answered (step binary64 self (setting (set-params params))) ⌝ }
+    {
+        let n = self.n;
+        let stage = self.stage;
+        let shut = tests::is_shut(stage);
+        let sized = tests::is_sized(n);
+        let finite = tests::params_finite(params);
+        let passing = tests::params_pass(n, params);
+        let refusal = tests::first_refusal(shut, sized, true, false, finite, passing);
+        if refusal != 0 {
+            return Answer {
+                filter: self,
+                refusal,
+            };
+        }
+        let mut f = self;
+        f.params = params;
+        Answer {
+            filter: f,
+            refusal: 0,
+        }
+    }
+
+    pub fn set_kind(self, i: usize, kind: Kind) -> Answer
+        ensures { λ r. ⌜ r ≡ answered (step binary64 self (setting (set-kind i kind))) ⌝ }
+    {
+        let n = self.n;
+        let stage = self.stage;
+        let shut = tests::is_shut(stage);
+        let states = tests::is_sized(n);
+        let sized = tests::both(states, i < n);
+        let check = angles::kind_refusal(kind);
+        let refusal = tests::first_refusal(shut, sized, true, false, check != 5, check != 6);
+        if refusal != 0 {
+            return Answer {
+                filter: self,
+                refusal,
+            };
+        }
+        let mut f = self;
+        f.kinds[i] = kind;
+        Answer {
+            filter: f,
+            refusal: 0,
+        }
+    }
+}

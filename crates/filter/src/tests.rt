@@ -1,0 +1,207 @@
+// What the calls test before they are taken, a function for each test, and the order of the refusals. None of them asks anything; where a test is about sizes that may not do, it is right once they do.
+ghost use mathlib.Core.Path.{_≡_};
+ghost use mathlib.Core.Bool.{false, _&&_, cond};
+ghost use mathlib.Core.List.{[], _∷_, _++_};
+ghost use Prim.Native.Nat.{_+_, _*_};
+ghost use lib.Dec.{leb};
+ghost use lib.ListN.{take};
+ghost use lib.Ieee.{binary64};
+ghost use Rattle.floats.specs.Refusal.{refusal};
+ghost use Rattle.floats.specs.Numbers.{allFinite};
+ghost use Rattle.sigma.specs.Weights.{weightsPass};
+ghost use Rattle.filter.specs.Asked.{inRange, long, clear, every, inOrder, nothing, firstRefusal};
+ghost use Rattle.filter.specs.Filters.{isShut, isPredicting, isCorrecting};
+ghost use Rattle.filter.specs.Calls.{line, lend, observedNumbers};
+use crate::Stage;
+use angles::Kind;
+use sigma::Params;
+use sigma::weights;
+
+// The first refusal in the order 3, 1, 2, 4, 5, 6, or 0.
+pub fn first_refusal(
+    fits: bool,
+    sized: bool,
+    long: bool,
+    stale: bool,
+    finite: bool,
+    passing: bool,
+) -> u8
+    ensures { λ r. ⌜ r ≡ refusal (inOrder fits sized long stale finite passing nothing) ⌝ }
+{
+    if !fits {
+        return 3;
+    }
+    if !sized {
+        return 1;
+    }
+    if !long {
+        return 2;
+    }
+    if stale {
+        return 4;
+    }
+    if !finite {
+        return 5;
+    }
+    if !passing {
+        return 6;
+    }
+    0
+}
+
+// ---- 3
+
+pub fn is_shut(s: Stage) -> bool
+    ensures { λ r. ⌜ r ≡ isShut s ⌝ }
+{
+    match s {
+        Stage::Shut => true,
+        Stage::Predicting => false,
+        Stage::Correcting => false,
+    }
+}
+
+pub fn is_predicting(s: Stage) -> bool
+    ensures { λ r. ⌜ r ≡ isPredicting s ⌝ }
+{
+    match s {
+        Stage::Shut => false,
+        Stage::Predicting => true,
+        Stage::Correcting => false,
+    }
+}
+
+pub fn is_correcting(s: Stage) -> bool
+    ensures { λ r. ⌜ r ≡ isCorrecting s ⌝ }
+{
+    match s {
+        Stage::Shut => false,
+        Stage::Predicting => false,
+        Stage::Correcting => true,
+    }
+}
+
+// ---- 1
+
+pub fn in_range(from: usize, to: usize, n: usize) -> bool
+    ensures { λ r. ⌜ r ≡ inRange from to n ⌝ }
+{
+    if n < from {
+        return false;
+    }
+    n <= to
+}
+
+// Whether there are 1 to 8 states.
+pub fn is_sized(n: usize) -> bool
+    ensures { λ r. ⌜ r ≡ inRange 1 8 n ⌝ }
+{
+    in_range(1, 8, n)
+}
+
+pub fn both(a: bool, b: bool) -> bool
+    ensures { λ r. ⌜ r ≡ (a && b) ⌝ }
+{
+    if a {
+        return b;
+    }
+    false
+}
+
+// ---- how many numbers are needed, at sizes up to 8
+
+// The numbers of a square matrix.
+pub fn square(n: usize) -> usize
+    ensures { λ r. ⌜ r ≡ cond (leb n 8) (n * n) 0 ⌝ }
+{
+    if n <= 8 {
+        return n * n;
+    }
+    0
+}
+
+// The numbers of 2n+1 points of d.
+pub fn point_numbers(n: usize, d: usize) -> usize
+    ensures { λ r. ⌜ r ≡ cond (leb n 8 && leb d 8) (observedNumbers n d) 0 ⌝ }
+{
+    if n <= 8 {
+        if d <= 8 {
+            return (n + n + 1) * d;
+        }
+    }
+    0
+}
+
+// The index of the last point.
+pub fn last_point(n: usize) -> usize
+    ensures { λ r. ⌜ r ≡ cond (leb n 8) (n + n) 0 ⌝ }
+{
+    if n <= 8 {
+        return n + n;
+    }
+    0
+}
+
+// ---- 5 and 6
+
+pub fn params_finite(params: Params) -> bool
+    ensures { λ r. ⌜ r ≡ allFinite (params .alpha ∷ params .beta ∷ params .kappa ∷ []) ⌝ }
+{
+    let v = [params.alpha, params.beta, params.kappa];
+    floats::all_finite(&v, 3)
+}
+
+pub fn params_pass(n: usize, params: Params) -> bool
+    ensures { λ r. ⌜ r ≡ (leb n 8 && weightsPass binary64 n params) ⌝ }
+{
+    if n <= 8 {
+        return weights::weights_pass(n, params);
+    }
+    false
+}
+
+// Whether none of the first m kinds is refused by the number.
+pub fn no_kind_refused(m: usize, kinds: [Kind; 4], number: u8) -> bool
+    ensures { λ r. ⌜ r ≡ every (clear binary64 number) (take m kinds) ⌝ }
+{
+    let mut i = 0usize;
+    while i < m {
+        if i >= 4 {
+            return true;
+        }
+        if angles::kind_refusal(kinds[i]) == number {
+            return false;
+        }
+        i += 1;
+    }
+    true
+}
+
+// ---- calls that take in the first numbers of lent slices
+
+// One slice, and nothing else to test.
+pub fn slice_refusal(fits: bool, n: usize, k: usize, s: &[f64]) -> u8
+    ensures { λ r. ⌜ r ≡ firstRefusal binary64 (line fits n [] (lend (now (s .entry)) k) false (take k (now (s .entry))) []) ⌝ }
+{
+    let sized = is_sized(n);
+    let finite = floats::all_finite(s, k);
+    first_refusal(fits, sized, k <= s.len(), false, finite, true)
+}
+
+// Of three slices, whether each is long enough, and whether the numbers taken in are finite.
+pub fn all_long(a: &[f64], i: usize, b: &[f64], j: usize, c: &[f64], k: usize) -> bool
+    ensures { λ r. ⌜ r ≡ every long (lend (now (a .entry)) i ++ (lend (now (b .entry)) j ++ lend (now (c .entry)) k)) ⌝ }
+{
+    let rest = both(j <= b.len(), k <= c.len());
+    both(i <= a.len(), rest)
+}
+
+pub fn fronts_finite(a: &[f64], i: usize, b: &[f64], j: usize, c: &[f64], k: usize) -> bool
+    ensures { λ r. ⌜ r ≡ allFinite (take i (now (a .entry)) ++ (take j (now (b .entry)) ++ take k (now (c .entry)))) ⌝ }
+{
+    let first = floats::all_finite(a, i);
+    let second = floats::all_finite(b, j);
+    let third = floats::all_finite(c, k);
+    let rest = both(second, third);
+    both(first, rest)
+}
