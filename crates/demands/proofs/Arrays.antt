@@ -38,6 +38,9 @@ all-set (y ∷ l) (suc i) x h k =
     let p = both {a = finite y} {b = allFinite l} h in
     both-true {a = finite y} (p .0) (all-set l i x (p .1) k)
 
+pub all-front : (k : ℕ) (l : List Float) → allFinite l ≡ true → allFinite (take k l) ≡ true
+all-front k l h = all-parts (take k l) (drop k l) (rw take-append-drop h) .0
+
 pub all-places : (e : ℕ → Float) → ((i : ℕ) → finite (e i) ≡ true) → (k : ℕ) (t : List Float) → allFinite t ≡ true → allFinite (placesOf e k t) ≡ true
 unfolding placesOf
 all-places e h zero t g = g

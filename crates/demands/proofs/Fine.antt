@@ -31,14 +31,13 @@ use Rattle.demands.specs.Listed.{measured}
 use Rattle.demands.specs.Sound.{Filled, Sound}
 use Rattle.demands.proofs.Passed.{both, Passed, Ran, ran-finish, ran-after, ran-listed, ran-either, ran-mapped}
 use Rattle.demands.proofs.Listed.{drawing, predicting, correcting}
-use Rattle.demands.proofs.Arrays.{all-places, filled-places, filled-rows, filled-front, kinds-finite, kinds-fit}
+use Rattle.demands.proofs.Arrays.{all-front, all-places, filled-places, filled-rows, filled-front, kinds-finite, kinds-fit}
 
 -- ---- what a change installs is right for the filter
 
--- weights and points: 17 finite numbers, and 2n+1 finite points
+-- weights and points: 2n+1 finite weights, and as many finite points
 pub record Laid (n : ℕ) (w : Weighted) : Type 0 where
-  pub count : length (w .weights) ≡ 17
-  pub weights : allFinite (w .weights) ≡ true
+  pub weights : Filled (n + n + 1) 17 (w .weights)
   pub points : Filled (pointNumbers n) 136 (w .points)
 
 module _ (f : Format) (n : ℕ) where
@@ -107,8 +106,7 @@ module _ (f : Format) where
 
     laid-weights : (points : List Float) → Filled (pointNumbers n) 136 points → Laid n (record { weights = weightsOf f n p; points = points })
     laid-weights points a = record {
-      count = length-places (weightAt f n p) (n + n + 1) (zeros 17) ∙ length-zeros 17;
-      weights = all-places (weightAt f n p) weight-finite (n + n + 1) (zeros 17) (all-zeros 17);
+      weights = filled-places (weightAt f n p) (n + n + 1) 17 (all-front (n + n + 1) (weightsOf f n p) (all-places (weightAt f n p) weight-finite (n + n + 1) (zeros 17) (all-zeros 17)));
       points = a;
     }
 
@@ -151,7 +149,7 @@ module _ (f : Format) (s : Filter) (o : Sound f s) where
       record { change = fine _ (laid-weights f (s .n) (s .params) (o .passed h) points a); given = a .bounded })
 
   open-weighted : isShut (s .stage) ≡ false → (points : List Float) → Filled (pointNumbers (s .n)) 136 points → Laid (s .n) (record { weights = seen s .«drawn_weights»; points = points })
-  open-weighted h points a = rw h (record { count = o .drawn-weights h .0; weights = o .drawn-weights h .1; points = a })
+  open-weighted h points a = rw h (record { weights = o .drawn-weights h; points = a })
 
   pub fine : (c : Call) → Passed f (asks (seen s) c) → Ran (plan f (seen s) c) (λ (d : Done). FineDone f (s .n) d)
   unfolding allFinite
@@ -171,7 +169,7 @@ module _ (f : Format) (s : Filter) (o : Sound f s) where
   fine (setting (open-correction b)) h =
       ran-either _ (s .stale) _ _
       (λ t. drawn-fine opened-correction (λ w a. a) (in-range 1 8 (s .n) (h .sizes .0) .0))
-      (λ t. ran-finish _ _ (rw t (record { change = record { count = o .weights t .0; weights = o .weights t .1; points = o .points t }; given = o .points t .bounded })))
+      (λ t. ran-finish _ _ (rw t (record { change = record { weights = o .weights t; points = o .points t }; given = o .points t .bounded })))
   fine (closing (close-prediction v)) h =
       let points = front (pointNumbers (s .n)) v (zeros 136) in
       ran-mapped _ (closed (seen s .«drawn_weights») points false) (predicting f (seen s) v) (λ m e.

@@ -1,5 +1,5 @@
 -- The invariant: New makes it, every call keeps it, points, weights and scratch put at will keep it; and under it every number handed out is finite. Assumes nothing.
-use Prim.Native.Nat.{ℕ, _*_, _≤_, zero-le}
+use Prim.Native.Nat.{ℕ, _+_, _*_, _≤_, zero-le}
 use mathlib.Core.Path.{_≡_, refl, sym, ap}
 use mathlib.Core.Bool.{true}
 use mathlib.Core.List.{List, [], _∷_}
@@ -53,7 +53,7 @@ module _ (f : Format) where
   empty-sound = fresh-sound 0 (zeros 8) (zeros 64) (zeros 64) _ zero-le (filled-zeros 8) (filled-zeros 64) (filled-zeros 64) refl (λ h. absurd (omega arith))
 
   fresh-tidy : (n : ℕ) (x p q : List Float) (params : Params) → Tidy (fresh n x p q params)
-  fresh-tidy n x p q params = record { unused = drop-zeros (pointNumbers n) 136; scratch-weights = λ e. refl; scratch-points = λ e. refl }
+  fresh-tidy n x p q params = record { unused = drop-zeros (pointNumbers n) 136; unused-weights = drop-zeros (n + n + 1) 17; scratch-weights = λ e. refl; scratch-points = λ e. refl }
 
   module _ (n : ℕ) (x p q : List Float) (params : Params) where
     pub new-sound : Sound f (newAnswer f n x p q params .filter)
@@ -83,28 +83,28 @@ module _ (f : Format) where
   set-sound s (q-set v) o g = record { small = o .small; x = o .x; p = o .p; q = g; params = o .params; passed = o .passed; kinds = o .kinds; turns = o .turns; eight = o .eight; weights = o .weights; points = o .points; drawn-weights = o .drawn-weights; drawn-points = o .drawn-points }
   set-sound s (params-set v) o g = record { small = o .small; x = o .x; p = o .p; q = o .q; params = g .0; passed = λ e. g .1; kinds = o .kinds; turns = o .turns; eight = o .eight; weights = o .weights; points = o .points; drawn-weights = o .drawn-weights; drawn-points = o .drawn-points }
   set-sound s (kinds-set v) o g = record { small = o .small; x = o .x; p = o .p; q = o .q; params = o .params; passed = o .passed; kinds = g .0; turns = g .1; eight = g .2; weights = o .weights; points = o .points; drawn-weights = o .drawn-weights; drawn-points = o .drawn-points }
-  set-sound s (opened-prediction d) o g = record { small = o .small; x = o .x; p = o .p; q = o .q; params = o .params; passed = o .passed; kinds = o .kinds; turns = o .turns; eight = o .eight; weights = o .weights; points = o .points; drawn-weights = λ e. (g .count, g .weights); drawn-points = λ e. g .points }
-  set-sound s (opened-correction d) o g = record { small = o .small; x = o .x; p = o .p; q = o .q; params = o .params; passed = o .passed; kinds = o .kinds; turns = o .turns; eight = o .eight; weights = o .weights; points = o .points; drawn-weights = λ e. (g .count, g .weights); drawn-points = λ e. g .points }
+  set-sound s (opened-prediction d) o g = record { small = o .small; x = o .x; p = o .p; q = o .q; params = o .params; passed = o .passed; kinds = o .kinds; turns = o .turns; eight = o .eight; weights = o .weights; points = o .points; drawn-weights = λ e. g .weights; drawn-points = λ e. g .points }
+  set-sound s (opened-correction d) o g = record { small = o .small; x = o .x; p = o .p; q = o .q; params = o .params; passed = o .passed; kinds = o .kinds; turns = o .turns; eight = o .eight; weights = o .weights; points = o .points; drawn-weights = λ e. g .weights; drawn-points = λ e. g .points }
 
   changed-sound : (s : Filter) (c : Change) → Sound f s → Fine f (s .n) c → Sound f (changed s c)
   changed-sound s (sets c) o g = set-sound s c o g
-  changed-sound s (closes c) o g = record { small = o .small; x = g .0; p = g .1; q = o .q; params = o .params; passed = o .passed; kinds = o .kinds; turns = o .turns; eight = o .eight; weights = λ e. (g .2 .count, g .2 .weights); points = λ e. g .2 .points; drawn-weights = λ e. absurd (two-ways refl e); drawn-points = λ e. absurd (two-ways refl e) }
+  changed-sound s (closes c) o g = record { small = o .small; x = g .0; p = g .1; q = o .q; params = o .params; passed = o .passed; kinds = o .kinds; turns = o .turns; eight = o .eight; weights = λ e. g .2 .weights; points = λ e. g .2 .points; drawn-weights = λ e. absurd (two-ways refl e); drawn-points = λ e. absurd (two-ways refl e) }
   changed-sound s abandons o g = record { small = o .small; x = o .x; p = o .p; q = o .q; params = o .params; passed = o .passed; kinds = o .kinds; turns = o .turns; eight = o .eight; weights = o .weights; points = o .points; drawn-weights = λ e. absurd (two-ways refl e); drawn-points = λ e. absurd (two-ways refl e) }
   changed-sound s reads o g = o
 
   set-tidy : (s : Filter) (c : Setting) → Tidy s → Tidy (set s c)
-  set-tidy s (x-set v) t = record { unused = t .unused; scratch-weights = t .scratch-weights; scratch-points = t .scratch-points }
-  set-tidy s (p-set v) t = record { unused = t .unused; scratch-weights = t .scratch-weights; scratch-points = t .scratch-points }
-  set-tidy s (q-set v) t = record { unused = t .unused; scratch-weights = t .scratch-weights; scratch-points = t .scratch-points }
-  set-tidy s (params-set v) t = record { unused = t .unused; scratch-weights = t .scratch-weights; scratch-points = t .scratch-points }
-  set-tidy s (kinds-set v) t = record { unused = t .unused; scratch-weights = t .scratch-weights; scratch-points = t .scratch-points }
-  set-tidy s (opened-prediction d) t = record { unused = t .unused; scratch-weights = λ e. absurd (two-ways e refl); scratch-points = λ e. absurd (two-ways e refl) }
-  set-tidy s (opened-correction d) t = record { unused = t .unused; scratch-weights = λ e. absurd (two-ways e refl); scratch-points = λ e. absurd (two-ways e refl) }
+  set-tidy s (x-set v) t = record { unused = t .unused; unused-weights = t .unused-weights; scratch-weights = t .scratch-weights; scratch-points = t .scratch-points }
+  set-tidy s (p-set v) t = record { unused = t .unused; unused-weights = t .unused-weights; scratch-weights = t .scratch-weights; scratch-points = t .scratch-points }
+  set-tidy s (q-set v) t = record { unused = t .unused; unused-weights = t .unused-weights; scratch-weights = t .scratch-weights; scratch-points = t .scratch-points }
+  set-tidy s (params-set v) t = record { unused = t .unused; unused-weights = t .unused-weights; scratch-weights = t .scratch-weights; scratch-points = t .scratch-points }
+  set-tidy s (kinds-set v) t = record { unused = t .unused; unused-weights = t .unused-weights; scratch-weights = t .scratch-weights; scratch-points = t .scratch-points }
+  set-tidy s (opened-prediction d) t = record { unused = t .unused; unused-weights = t .unused-weights; scratch-weights = λ e. absurd (two-ways e refl); scratch-points = λ e. absurd (two-ways e refl) }
+  set-tidy s (opened-correction d) t = record { unused = t .unused; unused-weights = t .unused-weights; scratch-weights = λ e. absurd (two-ways e refl); scratch-points = λ e. absurd (two-ways e refl) }
 
   changed-tidy : (s : Filter) (c : Change) → Tidy s → Fine f (s .n) c → Tidy (changed s c)
   changed-tidy s (sets c) t g = set-tidy s c t
-  changed-tidy s (closes c) t g = record { unused = g .2 .points .unused; scratch-weights = λ e. refl; scratch-points = λ e. refl }
-  changed-tidy s abandons t g = record { unused = t .unused; scratch-weights = λ e. refl; scratch-points = λ e. refl }
+  changed-tidy s (closes c) t g = record { unused = g .2 .points .unused; unused-weights = g .2 .weights .unused; scratch-weights = λ e. refl; scratch-points = λ e. refl }
+  changed-tidy s abandons t g = record { unused = t .unused; unused-weights = t .unused-weights; scratch-weights = λ e. refl; scratch-points = λ e. refl }
   changed-tidy s reads t g = t
 
   -- ---- EVERY CALL KEEPS IT

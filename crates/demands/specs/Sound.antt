@@ -1,5 +1,5 @@
 -- What holds of every filter that the demands speak of, and the numbers that are handed out. Definitions only.
-use Prim.Native.Nat.{ℕ, _-_, _*_, _≤_}
+use Prim.Native.Nat.{ℕ, _+_, _-_, _*_, _≤_}
 use mathlib.Core.Path.{_≡_}
 use mathlib.Core.Bool.{true, false}
 use mathlib.Core.List.{List, [], _∷_, _++_}
@@ -23,7 +23,7 @@ pub record Filled (k m : ℕ) (l : List Float) : Type 0 where
   pub bounded : allFinite (take k l) ≡ true
   pub unused : drop k l ≡ zeros (m - k)
 
--- THE INVARIANT. The current points and weights count while not stale, the drawn ones while a call is open; n is 0 in the empty filter alone.
+-- THE INVARIANT. The current points and weights count while not stale, the drawn ones while a call is open; the empty filter has n = 0, and passes 6 for no number of states.
 pub record Sound (f : Format) (s : Filter) : Type 0 where
   pub small : s .n ≤ 8
   pub x : Filled (s .n) 8 (s .x)
@@ -35,14 +35,15 @@ pub record Sound (f : Format) (s : Filter) : Type 0 where
   pub kinds : allFinite (inKinds (s .kinds)) ≡ true
   pub turns : every (fit f) (asKinds (s .kinds)) ≡ true
   pub eight : length (s .kinds) ≡ 8
-  pub weights : s .stale ≡ false → (length (s .weights) ≡ 17) × (allFinite (s .weights) ≡ true)
+  pub weights : s .stale ≡ false → Filled (s .n + s .n + 1) 17 (s .weights)
   pub points : s .stale ≡ false → Filled (pointNumbers (s .n)) 136 (s .points)
-  pub drawn-weights : isShut (s .stage) ≡ false → (length (s .«drawn_weights») ≡ 17) × (allFinite (s .«drawn_weights») ≡ true)
+  pub drawn-weights : isShut (s .stage) ≡ false → Filled (s .n + s .n + 1) 17 (s .«drawn_weights»)
   pub drawn-points : isShut (s .stage) ≡ false → Filled (pointNumbers (s .n)) 136 (s .«drawn_points»)
 
--- beside it, of a filter that no one has put at will: unused places of the points are +0 while stale too, and scratch is +0 while nothing is open
+-- beside it, of a filter that no one has put at will: unused places of the points and weights are +0 while stale too, and scratch is +0 while nothing is open
 pub record Tidy (s : Filter) : Type 0 where
   pub unused : drop (pointNumbers (s .n)) (s .points) ≡ zeros (136 - pointNumbers (s .n))
+  pub unused-weights : drop (s .n + s .n + 1) (s .weights) ≡ zeros (17 - (s .n + s .n + 1))
   pub scratch-weights : isShut (s .stage) ≡ true → s .«drawn_weights» ≡ zeros 17
   pub scratch-points : isShut (s .stage) ≡ true → s .«drawn_points» ≡ zeros 136
 
@@ -58,7 +59,7 @@ module _ (f : Format) where
     stepped-on : {s : Filter} → Yielded s → (c : Call) → Yielded (step f s c .filter)
     put-at-will : {s : Filter} (t : Filter) → Yielded s → Alike s t → Yielded t
 
--- every number that a call hands out: those it gives, and x and P as they stand after it
+-- every number that a call hands out: those it gives, to a buffer or as values, and x and P as they stand after it
 abbrev pub handedOut : Told → List Float
 handedOut t = t .reply .given ++ (t .x ++ t .p)
 

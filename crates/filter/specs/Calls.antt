@@ -63,7 +63,7 @@ fits (closing c) t = ownOpen c t
 fits abandon t = not (isShut t)
 fits (reading c) t = true
 
--- ---- what each call asks beside that and 1 to 8 states: sizes; lent slices with how much of each is needed; whether stale stops it; the numbers that come in; what has to pass 6
+-- ---- what each call needs beside that and 1 to 8 states: sizes; lent slices with how much of each is needed; whether stale stops it; the numbers that come in; what has to pass 6
 
 abbrev pub sized : ℕ → ℕ → ℕ → List Size
 sized v from to = record { value = v; from = from; to = to } ∷ []
@@ -79,6 +79,14 @@ abbrev pub asKinds : List Kind → List Param
 asKinds [] = []
 asKinds (k ∷ ks) = by-kind k ∷ asKinds ks
 
+pub record Needs : Type 0 where
+  pub sizes : List Size
+  pub lent : List Lent
+  pub stale : Bool
+  pub inputs : List Float
+  pub params : List Param
+
+-- what is asked in all: that the call fits what is open, 1 to 8 states, and the rest
 abbrev pub line : Bool → ℕ → List Size → List Lent → Bool → List Float → List Param → Asks
 line fits n sizes lent stale inputs params = record { fits = fits; sizes = record { value = n; from = 1; to = 8 } ∷ sizes; lent = lent; stale = stale; inputs = inputs; params = params }
 
@@ -86,28 +94,35 @@ line fits n sizes lent stale inputs params = record { fits = fits; sizes = recor
 abbrev pub observedNumbers : ℕ → ℕ → ℕ
 observedNumbers n m = (n + n + 1) * m
 
-abbrev pub asks : Filter → Call → Asks
-asks s (setting (set-x v)) = line (isShut (s .stage)) (s .n) [] (lend v (s .n)) false (take (s .n) v) []
-asks s (setting (set-p v)) = line (isShut (s .stage)) (s .n) [] (lend v (s .n * s .n)) false (take (s .n * s .n) v) []
-asks s (setting (set-q v)) = line (isShut (s .stage)) (s .n) [] (lend v (s .n * s .n)) false (take (s .n * s .n) v) []
-asks s (setting (set-params p)) = line (isShut (s .stage)) (s .n) [] [] false (p .alpha ∷ p .beta ∷ p .kappa ∷ []) (by-params (s .n) p ∷ [])
-asks s (setting (set-kind i k)) = line (isShut (s .stage)) (s .n) (sized i 0 (s .n - 1)) [] false (numbersIn (k .residual)) (by-kind k ∷ [])
-asks s (setting (open-prediction b)) = line (isShut (s .stage)) (s .n) [] (lend b (pointNumbers (s .n))) false [] []
-asks s (setting (open-correction b)) = line (isShut (s .stage)) (s .n) [] (lend b (pointNumbers (s .n))) false [] []
-asks s (closing (close-prediction v)) = line (isPredicting (s .stage)) (s .n) [] (lend v (pointNumbers (s .n))) false (take (pointNumbers (s .n)) v) []
-asks s (closing (close-correction m z r kinds observed)) =
-    line (isCorrecting (s .stage)) (s .n) (sized m 1 4)
+-- a line of the table of calls
+abbrev pub needing : List Size → List Lent → Bool → List Float → List Param → Needs
+needing sizes lent stale inputs params = record { sizes = sizes; lent = lent; stale = stale; inputs = inputs; params = params }
+
+abbrev pub needs : Filter → Call → Needs
+needs s (setting (set-x v)) = needing [] (lend v (s .n)) false (take (s .n) v) []
+needs s (setting (set-p v)) = needing [] (lend v (s .n * s .n)) false (take (s .n * s .n) v) []
+needs s (setting (set-q v)) = needing [] (lend v (s .n * s .n)) false (take (s .n * s .n) v) []
+needs s (setting (set-params p)) = needing [] [] false (p .alpha ∷ p .beta ∷ p .kappa ∷ []) (by-params (s .n) p ∷ [])
+needs s (setting (set-kind i k)) = needing (sized i 0 (s .n - 1)) [] false (numbersIn (k .residual)) (by-kind k ∷ [])
+needs s (setting (open-prediction b)) = needing [] (lend b (pointNumbers (s .n))) false [] []
+needs s (setting (open-correction b)) = needing [] (lend b (pointNumbers (s .n))) false [] []
+needs s (closing (close-prediction v)) = needing [] (lend v (pointNumbers (s .n))) false (take (pointNumbers (s .n)) v) []
+needs s (closing (close-correction m z r kinds observed)) =
+    needing (sized m 1 4)
     (lend z m ++ (lend r (m * m) ++ lend observed (observedNumbers (s .n) m)))
     false
     (take m z ++ (take (m * m) r ++ (inKinds (take m kinds) ++ take (observedNumbers (s .n) m) observed)))
     (asKinds (take m kinds))
-asks s abandon = line (not (isShut (s .stage))) (s .n) [] [] false [] []
-asks s (reading (read-x b)) = line true (s .n) [] (lend b (s .n)) false [] []
-asks s (reading (read-p b)) = line true (s .n) [] (lend b (s .n * s .n)) false [] []
-asks s (reading (read-q b)) = line true (s .n) [] (lend b (s .n * s .n)) false [] []
-asks s (reading (read-points b)) = line true (s .n) [] (lend b (pointNumbers (s .n))) (s .stale) [] []
-asks s (reading read-params) = line true (s .n) [] [] false [] []
-asks s (reading read-stale) = line true (s .n) [] [] false [] []
+needs s abandon = needing [] [] false [] []
+needs s (reading (read-x b)) = needing [] (lend b (s .n)) false [] []
+needs s (reading (read-p b)) = needing [] (lend b (s .n * s .n)) false [] []
+needs s (reading (read-q b)) = needing [] (lend b (s .n * s .n)) false [] []
+needs s (reading (read-points b)) = needing [] (lend b (pointNumbers (s .n))) (s .stale) [] []
+needs s (reading read-params) = needing [] [] false [] []
+needs s (reading read-stale) = needing [] [] false [] []
+
+abbrev pub asks : Filter → Call → Asks
+asks s c = let a = needs s c in line (fits c (s .stage)) (s .n) (a .sizes) (a .lent) (a .stale) (a .inputs) (a .params)
 
 -- ---- what a call does once taken: its change, the numbers that it hands out, and what a reading of the stale mark answers (elsewhere true, which tells nothing)
 
