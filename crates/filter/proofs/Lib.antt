@@ -1,3 +1,5 @@
+-- `Sizes` and `KindTests` (the tests of numbers and of kinds), `Order` (the order of refusals), `Lines` (a line of the table of calls), `Taken` (one step as the code takes it, and readings),
+-- `Points` (point k of a list), `Opening` and `Closing` (the calls that open and close).
 pub mod Sizes
 pub mod KindTests
 pub mod Order

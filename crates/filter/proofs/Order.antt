@@ -3,6 +3,7 @@ use Prim.Native.Nat.{ℕ}
 use native.Mathlib.Omega.{arith}
 use mathlib.Core.Path.{_≡_, refl, ap, _∙_}
 use mathlib.Core.Bool.{Bool, true, false}
+use mathlib.Core.List.{[]}
 use lib.Ieee.{Format}
 use Rattle.floats.specs.Refusal.{Refusal, SIZE, SHORT, STAGE, STALE, NUMBER, PARAM, number, Outcome, refused, accepted, refusal}
 use Rattle.floats.specs.Numbers.{allFinite}
@@ -50,6 +51,11 @@ alike g h x y e d true true true false true true = e
 
 -- ---- over what a call asks
 
+-- no numbers come in
+pub none : allFinite [] ≡ true
+unfolding allFinite
+none = refl
+
 -- every test has passed
 pub record Passed (f : Format) (a : Asks) : Type 0 where
   pub fits : a .fits ≡ true
@@ -69,11 +75,6 @@ module _ (f : Format) (a : Asks) where
   pub tested : {fits sized long' stale finite passing : Bool} {r : ℕ} → r ≡ refusal (inOrder fits sized long' stale finite passing nothing) → fits ≡ a .fits → sized ≡ every within (a .sizes) → (every within (a .sizes) ≡ true → long' ≡ every long (a .lent)) → stale ≡ a .stale → (every within (a .sizes) ≡ true → finite ≡ allFinite (a .inputs)) → (every within (a .sizes) ≡ true → allFinite (a .inputs) ≡ true → passing ≡ every (fit f) (a .params)) → r ≡ firstRefusal f a
   unfolding firstRefusal
   tested {fits} {sized} {long'} {stale} {finite} {passing} e e₁ e₂ e₃ e₄ e₅ e₆ = e ∙ same-number fits sized long' stale finite passing (a .fits) (every within (a .sizes)) (every long (a .lent)) (a .stale) (allFinite (a .inputs)) (every (fit f) (a .params)) e₁ e₂ e₃ e₄ e₅ e₆
-
-  -- as those that a call asks for
-  pub first-is : firstRefusal f a ≡ refusal (inOrder (a .fits) (every within (a .sizes)) (every long (a .lent)) (a .stale) (allFinite (a .inputs)) (every (fit f) (a .params)) nothing)
-  unfolding firstRefusal
-  first-is = refl
 
   pub passed : firstRefusal f a ≡ 0 → Passed f a
   unfolding firstRefusal

@@ -6,7 +6,6 @@ use mathlib.Core.List.{List, []}
 use lib.ListN.{take}
 use lib.Ieee.{Float, Format}
 use Rattle.floats.specs.Refusal.{Outcome, accepted, refusal, or, onward}
-use Rattle.floats.specs.Numbers.{allFinite}
 use Rattle.floats.specs.Fronts.{over}
 use Rattle.matrix.specs.Results.{Plan, finish, run, mapped}
 use Rattle.floats.proofs.Refusals.{gave-zero, gave-number}
@@ -29,11 +28,6 @@ stayed s r = record { filter = s; reply = record { refusal = r; given = []; stal
 -- the answer of a call that is taken
 abbrev pub accepted-as : Filter → Answer
 accepted-as s = record { filter = s; refusal = 0 }
-
--- no numbers come in
-pub none : allFinite [] ≡ true
-unfolding allFinite
-none = refl
 
 -- the number that the tests of a call have given
 pub record Told (f : Format) (s : Filter) (c : Call) : Type 0 where
@@ -58,7 +52,7 @@ module _ {f : Format} {s : Filter} {c : Call} (t : Told f s c) where
     pub all-passed : Passed f (asks (seen s) c)
     all-passed = passed f (asks (seen s) c) (sym (t .is) ∙ z)
 
-    pub goes : step f s c ≡ stepped s (run (plan f (seen s) c))
+    goes : step f s c ≡ stepped s (run (plan f (seen s) c))
     unfolding step
     goes = ap (stepped s) (goes-on f (asks (seen s) c) (run (plan f (seen s) c)) (sym (t .is) ∙ z))
 

@@ -1,3 +1,4 @@
+-- What a call asks, filters and their changes, the table of calls, one step; New; point k of a list.
 pub mod Asked
 pub mod Filters
 pub mod Calls

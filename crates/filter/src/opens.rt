@@ -52,8 +52,9 @@ impl Filter {
                 refusal,
             };
         }
+        let stale = self.stale;
         let correcting = tests::is_correcting(stage);
-        if tests::both(correcting, !self.stale) {
+        if tests::both(correcting, !stale) {
             let weights = self.weights;
             let points = self.points;
             return self.opened(stage, Weighted { weights, points }, out);

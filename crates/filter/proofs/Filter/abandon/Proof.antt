@@ -6,8 +6,8 @@ use lib.Ieee.{binary64}
 use Rattle.filter.specs.Calls.{abandon}
 use Rattle.filter.specs.Steps.{answered}
 use Rattle.filter.proofs.Sizes.{and-true}
-use Rattle.filter.proofs.Order.{tested}
-use Rattle.filter.proofs.Taken.{Told, turned-away, finished, accepted-as, none}
+use Rattle.filter.proofs.Order.{none, tested}
+use Rattle.filter.proofs.Taken.{Told, turned-away, finished, accepted-as}
 use Rattle.filter.proofs.Filter.abandon.Statement.{statement}
 use Rattle.filter.proofs.Filter.abandon.Tie as tie
 

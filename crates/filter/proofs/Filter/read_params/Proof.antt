@@ -5,8 +5,8 @@ use lib.Ieee.{ofBits, binary64}
 use Rattle.filter.specs.Calls.{reading, read-params}
 use Rattle.filter.specs.Steps.{Stepped, paramsRead}
 use Rattle.filter.proofs.Sizes.{and-true}
-use Rattle.filter.proofs.Order.{tested}
-use Rattle.filter.proofs.Taken.{Told, refused-before, finished, none}
+use Rattle.filter.proofs.Order.{none, tested}
+use Rattle.filter.proofs.Taken.{Told, refused-before, finished}
 use Rattle.filter.proofs.Filter.read_params.Statement.{statement}
 use Rattle.filter.proofs.Filter.read_params.Tie as tie
 

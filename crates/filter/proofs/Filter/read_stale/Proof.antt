@@ -5,8 +5,8 @@ use lib.Ieee.{binary64}
 use Rattle.filter.specs.Calls.{reading, read-stale}
 use Rattle.filter.specs.Steps.{Stepped, staleRead}
 use Rattle.filter.proofs.Sizes.{and-true}
-use Rattle.filter.proofs.Order.{tested}
-use Rattle.filter.proofs.Taken.{Told, refused-before, finished, none}
+use Rattle.filter.proofs.Order.{none, tested}
+use Rattle.filter.proofs.Taken.{Told, refused-before, finished}
 use Rattle.filter.proofs.Filter.read_stale.Statement.{statement}
 use Rattle.filter.proofs.Filter.read_stale.Tie as tie
 

@@ -10,9 +10,8 @@ use lib.Ieee.{binary64}
 use Rattle.filter.specs.Calls.{sized}
 use Rattle.filter.specs.Point.{pointAsks}
 use Rattle.filter.proofs.Sizes.{and-true, point-in, within-both}
-use Rattle.filter.proofs.Order.{tested}
+use Rattle.filter.proofs.Order.{none, tested}
 use Rattle.filter.proofs.Lines.{states-le}
-use Rattle.filter.proofs.Taken.{none}
 use Rattle.filter.proofs.Points.{first}
 use Rattle.filter.proofs.point.point_refusal.Statement.{statement}
 use Rattle.filter.proofs.point.point_refusal.Tie as tie

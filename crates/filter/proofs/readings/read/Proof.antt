@@ -13,9 +13,8 @@ use Rattle.floats.proofs.Fronts.{front-over}
 use Rattle.filter.specs.Asked.{Asks}
 use Rattle.filter.specs.Calls.{lend, line}
 use Rattle.filter.proofs.Sizes.{and-true}
-use Rattle.filter.proofs.Order.{Gives, tested, passed, goes-on, refuses}
+use Rattle.filter.proofs.Order.{none, Gives, tested, passed, goes-on, refuses}
 use Rattle.filter.proofs.Lines.{sized-le, long-le}
-use Rattle.filter.proofs.Taken.{none}
 use Rattle.filter.proofs.readings.read.Statement.{statement}
 use Rattle.filter.proofs.readings.read.Tie as tie
 
