@@ -1,9 +1,10 @@
 -- Demand 1: a call ends with a result or one of the nine refusals, each exactly when its row says; what is refused changes nothing; every number handed out is finite. Over every format. Assumes nothing.
-use Prim.Native.Nat.{ℕ}
+use Prim.Native.Nat.{ℕ, _≤_}
 use mathlib.Core.Path.{_≡_}
 use mathlib.Core.Bool.{true, false, cond}
 use mathlib.Core.List.{List, []}
 use mathlib.Core.Logic.{_↔_, _≢_, _⊎_}
+use lib.ListN.{length, take}
 use lib.Ieee.{Float, Format, add}
 use Rattle.floats.specs.Refusal.{Refusal, NUMBER, PARAM, SIZE, STAGE, number, refusal}
 use Rattle.floats.specs.Numbers.{plusZero, zeros, allFinite}
@@ -30,6 +31,7 @@ use Rattle.demands.proofs.Listed.{open-prediction-lists, open-correctio
 use Rattle.demands.proofs.Table.{steps-give, stage-exactly, states-first}
 use Rattle.demands.proofs.Sound.{sound, tidy, all-handed-finite}
 use Rattle.demands.proofs.Opening.{opening-prediction, opening-correction}
+use Rattle.demands.proofs.Unread.{kinds-unread}
 
 module _ (f : Format) where
   -- ---- a result or a refusal, exactly when
@@ -112,6 +114,11 @@ module _ (f : Format) where
 
   pub opening-correction-never : {s : Filter} → Yielded f s → (b : List Float) → Neither (step f s (setting (open-correction b)) .reply .refusal)
   opening-correction-never = opening-correction f
+
+  -- Measurement kinds from m up are not read: whatever stands there, the call is the same.
+  pub kinds-from-m-unread : (s : Filter) (m : ℕ) (z r observed : List Float) (ks ls : List Kind) → m ≤ 4 → length ks ≡ 4 → length ls ≡ 4 → take m ks ≡ take m ls
+      → step f s (closing (close-correction m z r ks observed)) ≡ step f s (closing (close-correction m z r ls observed))
+  kinds-from-m-unread = kinds-unread f
 
   -- ---- what is refused
 
