@@ -248,7 +248,7 @@ fn call(word: &[u8], mut tokens: Tokens) -> Result<Call, Bad> {
     }
 }
 
-/// The tokens of a line: parted by blanks (spaces and tabs), up to a `#`.
+/// The tokens of a line: parted by blanks (spaces, tabs and carriage returns), up to a `#`.
 struct Tokens<'a> {
     rest: &'a [u8],
 }
@@ -260,7 +260,7 @@ impl<'a> Tokens<'a> {
     }
 
     fn next(&mut self) -> Option<&'a [u8]> {
-        let blank = |b: &u8| *b == b' ' || *b == b'\t';
+        let blank = |b: &u8| matches!(*b, b' ' | b'\t' | b'\r');
         let start = self.rest.iter().position(|b| !blank(b))?;
         let rest = &self.rest[start..];
         let end = rest.iter().position(blank).unwrap_or(rest.len());

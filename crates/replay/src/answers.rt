@@ -1,0 +1,268 @@
+// The answers, line by line, put after the bytes of out that are used. Each hands back how many are used then, and the filter where the call has one.
+ghost use mathlib.Core.Path.{_≡_};
+ghost use mathlib.Core.Bool.{_&&_, cond};
+ghost use Prim.Native.Nat.{_*_};
+ghost use lib.Dec.{leb};
+use angles::Kind;
+use angles::Residual;
+use filter::Answer;
+use filter::Filter;
+use filter::Stage;
+use sigma::Params;
+
+// The current filter, and how many bytes of answers wait.
+pub struct Turn {
+    pub filter: Filter,
+    pub used: usize,
+}
+
+// A line that is no call: it changes nothing.
+pub fn bad(filter: Filter, out: &mut [u8], used: usize) -> Turn
+    ensures { λ r. ⌜ r .filter ≡ filter ⌝ }
+{
+    Turn {
+        filter,
+        used: script::put(out, used, b"bad\n"),
+    }
+}
+
+fn digit(out: &mut [u8], used: usize, r: u8) -> usize {
+    script::put_decimal(out, used, r as u64)
+}
+
+// A refusal, or 0, alone.
+pub fn number(a: Answer, out: &mut [u8], used: usize) -> Turn
+    ensures { λ r. ⌜ r .filter ≡ a .filter ⌝ }
+{
+    let at = digit(out, used, a.refusal);
+    let filter = a.filter;
+    Turn {
+        filter,
+        used: script::put(out, at, b"\n"),
+    }
+}
+
+// A refusal, or 0, and all of a lent buffer.
+pub fn buffer(a: Answer, lent: &[f64], out: &mut [u8], used: usize) -> Turn
+    ensures { λ r. ⌜ r .filter ≡ a .filter ⌝ }
+{
+    let at = digit(out, used, a.refusal);
+    let at = script::put(out, at, b" ");
+    let at = script::put_decimal(out, at, lent.len() as u64);
+    let at = script::put_numbers(out, at, lent, lent.len());
+    let filter = a.filter;
+    Turn {
+        filter,
+        used: script::put(out, at, b"\n"),
+    }
+}
+
+// The product of two small numbers.
+pub fn times(a: usize, b: usize) -> usize
+    ensures { λ r. ⌜ r ≡ cond (leb a 32 && leb b 32) (a * b) 0 ⌝ }
+{
+    if a <= 32 {
+        if b <= 32 {
+            return a * b;
+        }
+    }
+    0
+}
+
+// The numbers of 2n+1 points.
+fn point_numbers(n: usize) -> usize {
+    if n <= 8 {
+        return times(n, n + n + 1);
+    }
+    0
+}
+
+// A label, and the numbers of an array of a filter: its states, a matrix, the first two weights, the points.
+fn put_states(out: &mut [u8], used: usize, label: &[u8], x: &[f64; 8], n: usize) -> usize {
+    let at = script::put(out, used, label);
+    script::put_numbers(out, at, x, n)
+}
+
+fn put_matrix(out: &mut [u8], used: usize, label: &[u8], p: &[f64; 64], n: usize) -> usize {
+    let at = script::put(out, used, label);
+    script::put_numbers(out, at, p, times(n, n))
+}
+
+fn put_weights(out: &mut [u8], used: usize, label: &[u8], weights: &[f64; 17]) -> usize {
+    let at = script::put(out, used, label);
+    script::put_numbers(out, at, weights, 2)
+}
+
+fn put_points(out: &mut [u8], used: usize, label: &[u8], points: &[f64; 136], n: usize) -> usize {
+    let at = script::put(out, used, label);
+    script::put_numbers(out, at, points, point_numbers(n))
+}
+
+// A close: a refusal, or 0 with x and P.
+pub fn close(a: Answer, out: &mut [u8], used: usize) -> Turn
+    ensures { λ r. ⌜ r .filter ≡ a .filter ⌝ }
+{
+    if a.refusal != 0 {
+        return number(a, out, used);
+    }
+    let filter = a.filter;
+    let n = filter.n;
+    let x = filter.x;
+    let p = filter.p;
+    let at = put_states(out, used, b"0 x", &x, n);
+    let at = put_matrix(out, at, b" P", &p, n);
+    Turn {
+        filter,
+        used: script::put(out, at, b"\n"),
+    }
+}
+
+fn put_params(out: &mut [u8], used: usize, params: Params) -> usize {
+    let at = script::put_number(out, used, params.alpha);
+    let at = script::put_number(out, at, params.beta);
+    script::put_number(out, at, params.kappa)
+}
+
+// A refusal, or 0, and the parameters.
+pub fn params(filter: Filter, out: &mut [u8], used: usize) -> Turn
+    ensures { λ r. ⌜ r .filter ≡ filter ⌝ }
+{
+    let read = filter.read_params();
+    let at = digit(out, used, read.refusal);
+    let given = read.params;
+    let at = put_params(out, at, given);
+    Turn {
+        filter,
+        used: script::put(out, at, b"\n"),
+    }
+}
+
+fn put_bit(out: &mut [u8], used: usize, b: bool) -> usize {
+    if b {
+        return script::put(out, used, b" 1");
+    }
+    script::put(out, used, b" 0")
+}
+
+// A refusal, or 0, and the stale mark.
+pub fn stale(filter: Filter, out: &mut [u8], used: usize) -> Turn
+    ensures { λ r. ⌜ r .filter ≡ filter ⌝ }
+{
+    let read = filter.read_stale();
+    let at = digit(out, used, read.refusal);
+    let at = put_bit(out, at, read.stale);
+    Turn {
+        filter,
+        used: script::put(out, at, b"\n"),
+    }
+}
+
+// A refusal and two 0s; or 0, where the part starts in its list, its length, and its numbers.
+pub fn point(refusal: u8, start: usize, part: &[f64], out: &mut [u8], used: usize) -> usize {
+    let at = digit(out, used, refusal);
+    let at = script::put(out, at, b" ");
+    let at = script::put_decimal(out, at, start as u64);
+    let at = script::put(out, at, b" ");
+    let at = script::put_decimal(out, at, part.len() as u64);
+    let at = script::put_numbers(out, at, part, part.len());
+    script::put(out, at, b"\n")
+}
+
+// A refusal, or 0, and a number.
+pub fn value(refusal: u8, x: f64, out: &mut [u8], used: usize) -> usize {
+    let at = digit(out, used, refusal);
+    let at = script::put_number(out, at, x);
+    script::put(out, at, b"\n")
+}
+
+fn put_kind(out: &mut [u8], used: usize, k: Kind) -> usize {
+    let residual = k.residual;
+    match residual {
+        Residual::Plain => script::put(out, used, b" p"),
+        Residual::Turn(h) => {
+            let at = script::put(out, used, b" t");
+            script::put_number(out, at, h)
+        }
+    }
+}
+
+fn put_kinds(out: &mut [u8], used: usize, kinds: [Kind; 8], n: usize) -> usize {
+    let mut at = used;
+    let mut i = 0usize;
+    while i < n {
+        if i >= 8 {
+            return at;
+        }
+        at = put_kind(out, at, kinds[i]);
+        i += 1;
+    }
+    at
+}
+
+fn put_stage(out: &mut [u8], used: usize, stage: Stage) -> usize {
+    match stage {
+        Stage::Shut => script::put(out, used, b" open -"),
+        Stage::Predicting => script::put(out, used, b" open p"),
+        Stage::Correcting => script::put(out, used, b" open c"),
+    }
+}
+
+// Of a filter: its size, x, P and Q.
+fn put_values(out: &mut [u8], used: usize, filter: Filter) -> usize {
+    let n = filter.n;
+    let x = filter.x;
+    let p = filter.p;
+    let q = filter.q;
+    let at = script::put(out, used, b"0 n ");
+    let at = script::put_decimal(out, at, n as u64);
+    let at = put_states(out, at, b" x", &x, n);
+    let at = put_matrix(out, at, b" P", &p, n);
+    put_matrix(out, at, b" Q", &q, n)
+}
+
+// Of a filter: its parameters and kinds.
+fn put_settings(out: &mut [u8], used: usize, filter: Filter) -> usize {
+    let n = filter.n;
+    let given = filter.params;
+    let kinds = filter.kinds;
+    let at = script::put(out, used, b" par");
+    let at = put_params(out, at, given);
+    let at = script::put(out, at, b" kinds");
+    put_kinds(out, at, kinds, n)
+}
+
+// Of a filter: its weights, points and stale mark.
+fn put_current(out: &mut [u8], used: usize, filter: Filter) -> usize {
+    let n = filter.n;
+    let weights = filter.weights;
+    let points = filter.points;
+    let at = put_weights(out, used, b" w", &weights);
+    let at = put_points(out, at, b" pts", &points, n);
+    let at = script::put(out, at, b" stale");
+    put_bit(out, at, filter.stale)
+}
+
+// Of a filter: what is open, and what that has drawn.
+fn put_drawn(out: &mut [u8], used: usize, filter: Filter) -> usize {
+    let n = filter.n;
+    let stage = filter.stage;
+    let weights = filter.drawn_weights;
+    let points = filter.drawn_points;
+    let at = put_stage(out, used, stage);
+    let at = put_weights(out, at, b" dw", &weights);
+    put_points(out, at, b" dpts", &points, n)
+}
+
+// All of a filter, the used places only.
+pub fn dump(filter: Filter, out: &mut [u8], used: usize) -> Turn
+    ensures { λ r. ⌜ r .filter ≡ filter ⌝ }
+{
+    let at = put_values(out, used, filter);
+    let at = put_settings(out, at, filter);
+    let at = put_current(out, at, filter);
+    let at = put_drawn(out, at, filter);
+    Turn {
+        filter,
+        used: script::put(out, at, b"\n"),
+    }
+}

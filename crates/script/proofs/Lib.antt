@@ -1,0 +1,9 @@
+-- Laws that the proofs of `script` cite.
+pub mod Letters
+pub mod Lists
+pub mod Marks
+pub mod Pages
+pub mod Runs
+pub mod Same
+pub mod Sizes
+pub mod Widths

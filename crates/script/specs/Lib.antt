@@ -1,0 +1,5 @@
+-- What the contracts of `script` cite.
+pub mod Names
+pub mod Page
+pub mod Text
+pub mod Numbers

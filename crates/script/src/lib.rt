@@ -1,0 +1,34 @@
+// The text of a script of calls, taken apart (bytes and tokens, sizes, numbers, lists and kinds, the call that a line names) and written (answers, put into lent bytes).
+mod names;
+mod numbers;
+mod text;
+mod write;
+
+pub use names::Call;
+pub use names::Name;
+pub use names::call_at;
+pub use names::name_of;
+pub use numbers::KindRead;
+pub use numbers::ListRead;
+pub use numbers::NumberRead;
+pub use numbers::SizeRead;
+pub use numbers::front;
+pub use numbers::kind_at;
+pub use numbers::list_at;
+pub use numbers::marked;
+pub use numbers::number_at;
+pub use numbers::size_at;
+pub use text::Token;
+pub use text::code;
+pub use text::is_blank;
+pub use text::line_end;
+pub use text::no_token;
+pub use text::part;
+pub use text::same_bytes;
+pub use text::token_at;
+pub use write::first;
+pub use write::gather;
+pub use write::put;
+pub use write::put_decimal;
+pub use write::put_number;
+pub use write::put_numbers;

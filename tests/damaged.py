@@ -1,0 +1,94 @@
+#!/usr/bin/env python3
+"""damaged.py COMMAND SCRIPT [ROUNDS] [SEED]: damages a script and holds the command that replays it to one answer for each call line.
+
+Each round takes a run of the script's lines and flips bytes, cuts, joins, doubles or lengthens lines, or drops the last newline. The command has to end
+with status 0 and write one line for each line that holds a token, comment stripped, or is longer than 16,384 bytes. Prints how many rounds and lines that were.
+"""
+import random
+import shlex
+import subprocess
+import sys
+
+LINE = 16384
+BLANKS = b' \t\r'
+
+
+def is_answered(line):
+    """Whether a line gets an answer: it is too long, or a byte that is no blank stands before its comment."""
+    return len(line) > LINE or any(byte not in BLANKS for byte in line.split(b'#')[0])
+
+
+def flip(lines, rng):
+    i = rng.randrange(len(lines))
+    line = bytearray(lines[i])
+    for _ in range(rng.randint(1, 4)):
+        if line:
+            line[rng.randrange(len(line))] ^= 1 << rng.randrange(8)
+    lines[i] = bytes(line)
+
+
+def replace(lines, rng):
+    i = rng.randrange(len(lines))
+    line = bytearray(lines[i])
+    if line:
+        line[rng.randrange(len(line))] = rng.choice(b' \t\r#\n\0pt0fF9x\xff')
+    lines[i] = bytes(line)
+
+
+def cut(lines, rng):
+    i = rng.randrange(len(lines))
+    at = rng.randint(0, len(lines[i]))
+    lines[i:i + 1] = rng.choice([[lines[i][:at]], [lines[i][at:]], [lines[i][:at], lines[i][at:]]])
+
+
+def join(lines, rng):
+    i = rng.randrange(len(lines))
+    lines[i:i + 2] = [rng.choice([b'', b' ', b'#']).join(lines[i:i + 2])]
+
+
+def double(lines, rng):
+    i = rng.randrange(len(lines))
+    lines[i] = lines[i] + b' ' + lines[i].partition(b' ')[2]
+
+
+def lengthen(lines, rng):
+    """A line of LINE bytes, or one or many more, by blanks, by a token, or by a comment."""
+    i = rng.randrange(len(lines))
+    length = LINE + rng.choice([-1, 0, 1, 2, 70000])
+    lines[i] = (lines[i] + rng.choice([b' ', b'\t', b'0', b'#', b' # '])).ljust(length, rng.choice([b' ', b'0', b'x']))
+
+
+DAMAGES = [flip, flip, flip, replace, replace, cut, cut, join, double, lengthen]
+
+
+def main():
+    if len(sys.argv) < 3:
+        sys.exit(__doc__)
+    command, script = shlex.split(sys.argv[1]), sys.argv[2]
+    rounds = int(sys.argv[3]) if len(sys.argv) > 3 else 200
+    seed = int(sys.argv[4]) if len(sys.argv) > 4 else 1
+    with open(script, 'rb') as source:
+        whole = source.read().split(b'\n')
+    rng = random.Random(seed)
+    total = answered = bad = 0
+    for number in range(rounds):
+        start = rng.randrange(max(1, len(whole) - 40))
+        lines = whole[start:start + rng.randint(1, 120)]
+        for _ in range(rng.randint(1, 20)):
+            rng.choice(DAMAGES)(lines, rng)
+        text = b'\n'.join(lines) + rng.choice([b'', b'\n'])
+        wanted = [is_answered(line) for line in text.split(b'\n')]
+        run = subprocess.run(command, input=text, capture_output=True, timeout=120, check=False)
+        answers = run.stdout.split(b'\n')
+        if run.returncode != 0 or answers[-1] != b'' or len(answers) - 1 != sum(wanted):
+            with open('damaged.script', 'wb') as out:
+                out.write(text)
+            sys.exit(f'round {number}: status {run.returncode}, {len(answers) - 1} answers for {sum(wanted)} calls; the script is in damaged.script')
+        total += len(wanted)
+        answered += sum(wanted)
+        bad += answers.count(b'bad')
+    print(f'{rounds} damaged scripts, {total} lines, {answered} answers as expected, {bad} of them `bad`')
+
+
+if __name__ == '__main__':
+    main()
