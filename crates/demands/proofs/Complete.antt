@@ -110,6 +110,44 @@ use Rattle.filter.proofs.point.point_refusal.Kinds as point-refusal-of
 use Rattle.filter.proofs.point.point_refusal.Reads as point-refusal
 use Rattle.filter.proofs.point.point.Kinds as point-of
 use Rattle.filter.proofs.point.point.Reads as point
+use Rattle.words.proofs.float_of.Kinds as float-of-of
+use Rattle.words.proofs.float_of.Reads as float-of
+use Rattle.words.proofs.bits_of.Kinds as bits-of-of
+use Rattle.words.proofs.bits_of.Reads as bits-of
+use Rattle.words.proofs.digit.Kinds as digit-of
+use Rattle.words.proofs.digit.Reads as digit
+use Rattle.words.proofs.word_at.Kinds as word-at-of
+use Rattle.words.proofs.word_at.Reads as word-at
+use Rattle.script.proofs.names.name_of.Kinds as name-of-of
+use Rattle.script.proofs.names.name_of.Reads as name-of
+use Rattle.script.proofs.names.call_at.Kinds as call-at-of
+use Rattle.script.proofs.names.call_at.Reads as call-at
+use Rattle.script.proofs.numbers.size_at.Kinds as size-at-of
+use Rattle.script.proofs.numbers.size_at.Reads as size-at
+use Rattle.script.proofs.numbers.number_at.Kinds as number-at-of
+use Rattle.script.proofs.numbers.number_at.Reads as number-at
+use Rattle.script.proofs.numbers.kind_at.Kinds as kind-at-of
+use Rattle.script.proofs.numbers.kind_at.Reads as kind-at
+use Rattle.script.proofs.text.is_blank.Kinds as is-blank-of
+use Rattle.script.proofs.text.is_blank.Reads as is-blank
+use Rattle.script.proofs.text.line_end.Kinds as line-end-of
+use Rattle.script.proofs.text.line_end.Reads as line-end
+use Rattle.script.proofs.text.token_at.Kinds as token-at-of
+use Rattle.script.proofs.text.token_at.Reads as token-at
+use Rattle.script.proofs.text.no_token.Kinds as no-token-of
+use Rattle.script.proofs.text.no_token.Reads as no-token
+use Rattle.script.proofs.text.same_bytes.Kinds as same-bytes-of
+use Rattle.script.proofs.text.same_bytes.Reads as same-bytes
+use Rattle.script.proofs.numbers.list_at.Kinds as list-at-of
+use Rattle.script.proofs.numbers.list_at.Reads as list-at
+use Rattle.script.proofs.write.put.Kinds as put-of
+use Rattle.script.proofs.write.put.Reads as put
+use Rattle.script.proofs.write.gather.Kinds as gather-of
+use Rattle.script.proofs.write.gather.Reads as gather
+use Rattle.script.proofs.write.put_number.Kinds as put-number-of
+use Rattle.script.proofs.write.put_number.Reads as put-number
+use Rattle.script.proofs.write.put_numbers.Kinds as put-numbers-of
+use Rattle.script.proofs.write.put_numbers.Reads as put-numbers
 
 -- a function of parameters ps and result r; Says is what its contract tells of a call: of the arguments, the result and the parameters at exit
 module _ {n : ℕ} (ps : List (PK n)) (r : RK n) (Says : Out n ps r) where
@@ -280,6 +318,63 @@ point-refusal-one κs a z z′ w w′ p q = (by p q, refl)
 
 pub point-one : OnePart point-of.ps point-of.r point.Learnt (λ κs z. z)
 point-one κs a z z′ w w′ p q = (by (p .1) (q .1), by (p .0) (q .0), refl)
+
+pub float-of-one : OneAnswer float-of-of.ps float-of-of.r float-of.Learnt
+float-of-one κs a z z′ w w′ p q = (by p q, refl)
+
+pub bits-of-one : OneAnswer bits-of-of.ps bits-of-of.r bits-of.Learnt
+bits-of-one κs a z z′ w w′ p q = (by p q, refl)
+
+pub digit-one : OneAnswer digit-of.ps digit-of.r digit.Learnt
+digit-one κs a z z′ w w′ p q = (by p q, refl)
+
+pub word-at-one : OneAnswer word-at-of.ps word-at-of.r word-at.Learnt
+word-at-one κs a z z′ w w′ p q = (by p q, refl)
+
+pub name-of-one : OneAnswer name-of-of.ps name-of-of.r name-of.Learnt
+name-of-one κs a z z′ w w′ p q = (by p q, refl)
+
+pub call-at-one : OneAnswer call-at-of.ps call-at-of.r call-at.Learnt
+call-at-one κs a z z′ w w′ p q = (by p q, refl)
+
+pub size-at-one : OneAnswer size-at-of.ps size-at-of.r size-at.Learnt
+size-at-one κs a z z′ w w′ p q = (by p q, refl)
+
+pub number-at-one : OneAnswer number-at-of.ps number-at-of.r number-at.Learnt
+number-at-one κs a z z′ w w′ p q = (by p q, refl)
+
+pub kind-at-one : OneAnswer kind-at-of.ps kind-at-of.r kind-at.Learnt
+kind-at-one κs a z z′ w w′ p q = (by p q, refl)
+
+pub is-blank-one : OneAnswer is-blank-of.ps is-blank-of.r is-blank.Learnt
+is-blank-one κs a z z′ w w′ p q = (by p q, refl)
+
+pub line-end-one : OneAnswer line-end-of.ps line-end-of.r line-end.Learnt
+line-end-one κs a z z′ w w′ p q = (by p q, refl)
+
+pub token-at-one : OneAnswer token-at-of.ps token-at-of.r token-at.Learnt
+token-at-one κs a z z′ w w′ p q = (by p q, refl)
+
+pub no-token-one : OneAnswer no-token-of.ps no-token-of.r no-token.Learnt
+no-token-one κs a z z′ w w′ p q = (by p q, refl)
+
+pub same-bytes-one : OneAnswer same-bytes-of.ps same-bytes-of.r same-bytes.Learnt
+same-bytes-one κs a z z′ w w′ p q = (by p q, refl)
+
+pub list-at-one : OneAnswer list-at-of.ps list-at-of.r list-at.Learnt
+list-at-one κs a z z′ w w′ p q = (by (p .0) (q .0), ap (λ (l : List Float). (tt, (tt, (l, tt)))) (by (p .1) (q .1)))
+
+pub put-one : OneAnswer put-of.ps put-of.r put.Learnt
+put-one κs a z z′ w w′ p q = (by (p .0) (q .0), ap (λ (l : List ℕ). (l, (tt, (tt, tt)))) (by (p .1) (q .1)))
+
+pub gather-one : OneAnswer gather-of.ps gather-of.r gather.Learnt
+gather-one κs a z z′ w w′ p q = (by (p .0) (q .0), ap (λ (l : List ℕ). (l, (tt, (tt, tt)))) (by (p .1) (q .1)))
+
+pub put-number-one : OneAnswer put-number-of.ps put-number-of.r put-number.Learnt
+put-number-one κs a z z′ w w′ p q = (by (p .0) (q .0), ap (λ (l : List ℕ). (l, (tt, (tt, tt)))) (by (p .1) (q .1)))
+
+pub put-numbers-one : OneAnswer put-numbers-of.ps put-numbers-of.r put-numbers.Learnt
+put-numbers-one κs a z z′ w w′ p q = (by (p .0) (q .0), ap (λ (l : List ℕ). (l, (tt, (tt, (tt, tt))))) (by (p .1) (q .1)))
 
 -- ---- A WEAKER CONTRACT FAILS IT: of the wrap, the number alone, and nothing of the value
 

@@ -1,8 +1,8 @@
 // The text of a script of calls, taken apart (bytes and tokens, sizes, numbers, lists and kinds, the call that a line names) and written (answers, put into lent bytes).
-mod names;
-mod numbers;
-mod text;
-mod write;
+pub mod names;
+pub mod numbers;
+pub mod text;
+pub mod write;
 
 pub use names::Call;
 pub use names::Name;
