@@ -97,9 +97,8 @@ filled-front k m s h g a = record {
   unused = drop-at (take k s) (drop k (zeros m)) k (length-take-le k s h) ∙ drop-zeros k m;
 }
 
-pub filled-zeros : (m : ℕ) → Filled 0 m (zeros m)
-unfolding allFinite
-filled-zeros m = record { long = length-zeros m; bounded = refl; unused = let e : m - 0 ≡ m = omega arith in ap zeros (sym e) }
+pub filled-zeros : (k m : ℕ) → Filled k m (zeros m)
+filled-zeros k m = record { long = length-zeros m; bounded = all-front k (zeros m) (all-zeros m); unused = drop-zeros k m }
 
 -- all of such an array is finite
 pub filled-all : {k m : ℕ} {l : List Float} → Filled k m l → allFinite l ≡ true

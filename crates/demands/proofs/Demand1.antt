@@ -9,7 +9,8 @@ use lib.Ieee.{Float, Format, add}
 use Rattle.floats.specs.Refusal.{Refusal, NUMBER, PARAM, SIZE, STAGE, number, refusal}
 use Rattle.floats.specs.Numbers.{plusZero, zeros, allFinite}
 use Rattle.floats.specs.Fronts.{front, over}
-use Rattle.angles.specs.Wrap.{wrapOf}
+use Rattle.root.specs.Answer.{rootOutcome}
+use Rattle.angles.specs.Wrap.{wrapOf, wrapped}
 use Rattle.angles.specs.Kinds.{numbersIn, kindOf}
 use Rattle.angles.specs.declared.Kind.{Kind}
 use Rattle.matrix.specs.Results.{planned}
@@ -22,11 +23,11 @@ use Rattle.filter.specs.Calls.{Call, setting, closing, open-prediction, open-co
 use Rattle.filter.specs.Steps.{step, paramsRead, staleRead}
 use Rattle.filter.specs.New.{empty, newAsks, newAnswer}
 use Rattle.filter.specs.Point.{pointAsks, pointRefusal, pointOf}
-use Rattle.demands.specs.Rows.{Some, NotFinite, NotAbove, OutOfRange, UnfitTurn, FirstFails, Cause, Applies, Due, ByStep, Neither}
+use Rattle.demands.specs.Rows.{Some, NotFinite, NotAbove, Below, OutOfRange, UnfitTurn, FirstFails, Cause, Applies, Due, ByStep, Neither}
 use Rattle.demands.specs.Listed.{listedAtOpen, listedAtPrediction, listedAtCorrection, measured}
 use Rattle.demands.specs.Runs.{told}
 use Rattle.demands.specs.Sound.{Sound, Tidy, Reached, Yielded, handedOut, Each}
-use Rattle.demands.proofs.Exactly.{exactly, taken-exactly, new-exactly, new-taken, point-exactly, point-taken, wrap-exactly, wrap-taken, kind-exactly, kind-taken, ends-so, refused-unwritten, refused-values, new-refused, point-refused}
+use Rattle.demands.proofs.Exactly.{exactly, taken-exactly, new-exactly, new-taken, point-exactly, point-taken, wrap-exactly, wrap-taken, wrap-refused, root-exactly, kind-exactly, kind-taken, ends-so, refused-unwritten, refused-values, new-refused, point-refused}
 use Rattle.demands.proofs.Listed.{open-prediction-lists, open-correction-lists, close-prediction-lists, close-correction-lists}
 use Rattle.demands.proofs.Table.{steps-give, stage-exactly, states-first}
 use Rattle.demands.proofs.Sound.{sound, tidy, all-handed-finite}
@@ -69,6 +70,14 @@ module _ (f : Format) where
 
   pub wrap-taken-when : (d h : Float) → (refusal (wrapOf f d h) ≡ 0) ↔ ((NotFinite d ⊎ NotFinite h → ⊥) × (NotAbove h ⊎ NotFinite (add f h h) → ⊥))
   wrap-taken-when = wrap-taken f
+
+  -- a refused wrap gives +0,
+  pub refused-wrap : (d h : Float) → wrapped (wrapOf f d h) .refusal ≢ 0 → wrapped (wrapOf f d h) .value ≡ plusZero
+  refused-wrap = wrap-refused f
+
+  -- of the root: 5 exactly when x isn't finite or is below zero, and no other number,
+  pub root-exactly-when : (x : Float) (r : Refusal) → (refusal (rootOutcome f x) ≡ number r) ↔ ((r ≡ NUMBER) × (NotFinite x ⊎ Below x))
+  root-exactly-when = root-exactly f
 
   -- and of the check of a kind.
   pub kind-exactly-when : (k : Kind) (r : Refusal)
@@ -148,6 +157,6 @@ module _ (f : Format) where
   pub yielded-is-sound : {s : Filter} → Yielded f s → Sound f s
   yielded-is-sound = sound f
 
-  -- and one that New and calls yield is tidy too: unused places of its points are +0 while stale, and scratch is while nothing is open.
+  -- and one that New and calls yield is tidy too: its points and weights are finite with +0 in unused places while stale, and scratch is +0 while nothing is open.
   pub reached-is-tidy : {s : Filter} → Reached f s → Sound f s × Tidy s
   reached-is-tidy = tidy f

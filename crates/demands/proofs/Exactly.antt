@@ -11,7 +11,9 @@ use lib.Ieee.Scale.{finite}
 use Rattle.floats.specs.Refusal.{Refusal, SIZE, SHORT, STAGE, STALE, NUMBER, PARAM, PIVOT, INNOV, RANGE, number, Outcome, refused, accepted, refusal, or, unless}
 use Rattle.floats.specs.Numbers.{plusZero, allFinite}
 use Rattle.floats.specs.Fronts.{over}
-use Rattle.angles.specs.Wrap.{wrapOf, wrapStep, halfTurn}
+use Rattle.root.specs.Definition.{rootOf, rooted}
+use Rattle.root.specs.Answer.{rootOutcome}
+use Rattle.angles.specs.Wrap.{wrapOf, wrapStep, wrapped, halfTurn}
 use Rattle.angles.specs.Kinds.{numbersIn, passes, kindOf}
 use Rattle.angles.specs.declared.Kind.{Kind}
 use Rattle.matrix.specs.Results.{Result, good, First, now, later, Plan, run, planned}
@@ -26,9 +28,9 @@ use Rattle.filter.specs.Calls.{Call, asks, Done, plan}
 use Rattle.filter.specs.Steps.{outcome, stepped, step, paramsOf, paramsRead, staleRead}
 use Rattle.filter.specs.New.{empty, newAsks, newOf, newAnswer}
 use Rattle.filter.specs.Point.{pointAsks, pointAt, pointRefusal, pointOf}
-use Rattle.demands.specs.Rows.{Some, here, there, NotFinite, NotAbove, OutOfRange, Shorter, UnfitTurn, Unfit, FirstFails, Cause, stage, size, short, stale, met, gives, Applies, place, Due}
+use Rattle.demands.specs.Rows.{Some, here, there, NotFinite, NotAbove, Below, OutOfRange, Shorter, UnfitTurn, Unfit, FirstFails, Cause, stage, size, short, stale, met, gives, Applies, place, Due}
 use Rattle.demands.specs.Rows as Row
-use Rattle.demands.proofs.Rows.{Means, itself, turned, reworded, none, parted, some, ranged, lent-long, all-finite, fitting, half-turn, turn, well}
+use Rattle.demands.proofs.Rows.{Means, itself, turned, reworded, none, parted, some, ranged, lent-long, all-finite, fitting, half-turn, turn, well, rooted-means}
 
 -- ---- the number gives back its refusal
 
@@ -272,6 +274,22 @@ module _ (f : Format) where
     pub wrap-taken : (refusal (wrapOf f d h) ≡ 0) ↔ ((NotFinite d ⊎ NotFinite h → ⊥) × (NotAbove h ⊎ NotFinite (add f h h) → ⊥))
     unfolding wrapOf
     wrap-taken = two-taken (wrapStep f d h) (allFinite (d ∷ h ∷ [])) (halfTurn f h) both-finite (half-turn f h)
+
+    -- what a refused wrap hands back
+    pub wrap-refused : wrapped (wrapOf f d h) .refusal ≢ 0 → wrapped (wrapOf f d h) .value ≡ plusZero
+    wrap-refused = go (wrapOf f d h)
+      where
+        go : (o : Outcome Float) → refusal o ≢ 0 → or plusZero o ≡ plusZero
+        go (refused r) n = refl
+        go (accepted w) n = absurd (n refl)
+
+  -- a root is refused by 5 just where x isn't finite or is below zero, and by nothing else
+  pub root-exactly : (x : Float) (r : Refusal) → (refusal (rootOutcome f x) ≡ number r) ↔ ((r ≡ NUMBER) × (NotFinite x ⊎ Below x))
+  root-exactly x r = go (rooted x) (rooted-means x)
+    where
+      go : (t : Bool) → Means t (NotFinite x ⊎ Below x) → (refusal (unless t NUMBER (accepted (rootOf f x))) ≡ number r) ↔ ((r ≡ NUMBER) × (NotFinite x ⊎ Below x))
+      go true m = ((λ e. absurd (omega (arith, number-above r))), (λ k. absurd (m .passes refl (k .1))))
+      go false m = ((λ e. (number-same (sym e), m .fails refl)), (λ k. sym (ap number (k .0))))
 
   module _ (k : Kind) where
     -- a kind is refused by 5 just where its half-turn isn't finite, by 6 just where it is and doesn't pass, and by nothing else

@@ -14,7 +14,6 @@ use Rattle.floats.specs.Numbers.{zeros, allFinite, aboveZero}
 use Rattle.floats.specs.Fronts.{front}
 use Rattle.floats.proofs.Finite.{all-zeros}
 use Rattle.angles.specs.declared.Kind.{Kind}
-use Rattle.matrix.proofs.Cells.{length-zeros, length-places}
 use Rattle.sigma.specs.declared.Params.{Params}
 use Rattle.sigma.specs.Weights.{scaleOf, w0mOf, w0cOf, wiOf, weightAt, weightsOf, weightsPass}
 use Rattle.sigma.specs.Draw.{pointNumbers, pointAt, drawPlan}

@@ -3,12 +3,12 @@ use Prim.Native.Nat.{ℕ, _≤_}
 use mathlib.Core.Path.{_≡_, refl}
 use mathlib.Core.Bool.{Bool, true, false, _&&_, cond}
 use mathlib.Core.List.{List}
-use mathlib.Core.Logic.{_≢_, _⊎_, inl, inr, ⊎-elim}
+use mathlib.Core.Logic.{_⊎_, inl, inr, ⊎-elim}
 use native.Mathlib.Omega.{arith}
 use lib.Dec.{leb}
 use lib.ListN.{length, take}
 use lib.Ieee.{Float, Format}
-use Rattle.floats.specs.Refusal.{Refusal, SIZE, SHORT, STAGE, NUMBER, PARAM, PIVOT, RANGE, number, Outcome, refused, accepted, unless, onward}
+use Rattle.floats.specs.Refusal.{Refusal, SIZE, SHORT, STAGE, PIVOT, RANGE, Outcome, refused, accepted, unless, onward}
 use Rattle.floats.specs.Numbers.{allFinite, aboveZero}
 use Rattle.root.specs.Definition.{rooted}
 use Rattle.root.proofs.Answers.{above-rooted}

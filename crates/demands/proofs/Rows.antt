@@ -107,7 +107,7 @@ fitting f (by-kind k) = turn f (k .residual)
 
 -- ---- the results
 
-rooted-means : (x : Float) → Means (rooted x) (NotFinite x ⊎ Below x)
+pub rooted-means : (x : Float) → Means (rooted x) (NotFinite x ⊎ Below x)
 unfolding rooted lt
 rooted-means nan = record { fails = λ h. inl refl; passes = λ h w. two-ways h refl }
 rooted-means (inf s) = record { fails = λ h. inl refl; passes = λ h w. two-ways h refl }

@@ -23,7 +23,7 @@ use Rattle.demands.specs.Runs.{tells, told, Alike}
 use Rattle.demands.specs.Sound.{Filled, Sound, Tidy, Reached, made, further, Yielded, fresh-made, stepped-on, put-at-will, handedOut, Each, end, and}
 use Rattle.demands.proofs.Rows.{two-ways}
 use Rattle.demands.proofs.Passed.{both, by-cases, run-cases}
-use Rattle.demands.proofs.Arrays.{all-both, all-parts, drop-zeros, filled-front, filled-zeros, filled-all}
+use Rattle.demands.proofs.Arrays.{all-both, all-parts, filled-front, filled-zeros, filled-all}
 use Rattle.demands.proofs.Fine.{FineSetting, Fine, FineDone, in-range, square-room, fine}
 
 module _ (f : Format) where
@@ -50,10 +50,10 @@ module _ (f : Format) where
 
   empty-sound : Sound f empty
   unfolding allFinite
-  empty-sound = fresh-sound 0 (zeros 8) (zeros 64) (zeros 64) _ zero-le (filled-zeros 8) (filled-zeros 64) (filled-zeros 64) refl (λ h. absurd (omega arith))
+  empty-sound = fresh-sound 0 (zeros 8) (zeros 64) (zeros 64) _ zero-le (filled-zeros 0 8) (filled-zeros 0 64) (filled-zeros 0 64) refl (λ h. absurd (omega arith))
 
   fresh-tidy : (n : ℕ) (x p q : List Float) (params : Params) → Tidy (fresh n x p q params)
-  fresh-tidy n x p q params = record { unused = drop-zeros (pointNumbers n) 136; unused-weights = drop-zeros (n + n + 1) 17; scratch-weights = λ e. refl; scratch-points = λ e. refl }
+  fresh-tidy n x p q params = record { points = filled-zeros (pointNumbers n) 136; weights = filled-zeros (n + n + 1) 17; scratch-weights = λ e. refl; scratch-points = λ e. refl }
 
   module _ (n : ℕ) (x p q : List Float) (params : Params) where
     pub new-sound : Sound f (newAnswer f n x p q params .filter)
@@ -93,18 +93,18 @@ module _ (f : Format) where
   changed-sound s reads o g = o
 
   set-tidy : (s : Filter) (c : Setting) → Tidy s → Tidy (set s c)
-  set-tidy s (x-set v) t = record { unused = t .unused; unused-weights = t .unused-weights; scratch-weights = t .scratch-weights; scratch-points = t .scratch-points }
-  set-tidy s (p-set v) t = record { unused = t .unused; unused-weights = t .unused-weights; scratch-weights = t .scratch-weights; scratch-points = t .scratch-points }
-  set-tidy s (q-set v) t = record { unused = t .unused; unused-weights = t .unused-weights; scratch-weights = t .scratch-weights; scratch-points = t .scratch-points }
-  set-tidy s (params-set v) t = record { unused = t .unused; unused-weights = t .unused-weights; scratch-weights = t .scratch-weights; scratch-points = t .scratch-points }
-  set-tidy s (kinds-set v) t = record { unused = t .unused; unused-weights = t .unused-weights; scratch-weights = t .scratch-weights; scratch-points = t .scratch-points }
-  set-tidy s (opened-prediction d) t = record { unused = t .unused; unused-weights = t .unused-weights; scratch-weights = λ e. absurd (two-ways e refl); scratch-points = λ e. absurd (two-ways e refl) }
-  set-tidy s (opened-correction d) t = record { unused = t .unused; unused-weights = t .unused-weights; scratch-weights = λ e. absurd (two-ways e refl); scratch-points = λ e. absurd (two-ways e refl) }
+  set-tidy s (x-set v) t = record { points = t .points; weights = t .weights; scratch-weights = t .scratch-weights; scratch-points = t .scratch-points }
+  set-tidy s (p-set v) t = record { points = t .points; weights = t .weights; scratch-weights = t .scratch-weights; scratch-points = t .scratch-points }
+  set-tidy s (q-set v) t = record { points = t .points; weights = t .weights; scratch-weights = t .scratch-weights; scratch-points = t .scratch-points }
+  set-tidy s (params-set v) t = record { points = t .points; weights = t .weights; scratch-weights = t .scratch-weights; scratch-points = t .scratch-points }
+  set-tidy s (kinds-set v) t = record { points = t .points; weights = t .weights; scratch-weights = t .scratch-weights; scratch-points = t .scratch-points }
+  set-tidy s (opened-prediction d) t = record { points = t .points; weights = t .weights; scratch-weights = λ e. absurd (two-ways e refl); scratch-points = λ e. absurd (two-ways e refl) }
+  set-tidy s (opened-correction d) t = record { points = t .points; weights = t .weights; scratch-weights = λ e. absurd (two-ways e refl); scratch-points = λ e. absurd (two-ways e refl) }
 
   changed-tidy : (s : Filter) (c : Change) → Tidy s → Fine f (s .n) c → Tidy (changed s c)
   changed-tidy s (sets c) t g = set-tidy s c t
-  changed-tidy s (closes c) t g = record { unused = g .2 .points .unused; unused-weights = g .2 .weights .unused; scratch-weights = λ e. refl; scratch-points = λ e. refl }
-  changed-tidy s abandons t g = record { unused = t .unused; unused-weights = t .unused-weights; scratch-weights = λ e. refl; scratch-points = λ e. refl }
+  changed-tidy s (closes c) t g = record { points = g .2 .points; weights = g .2 .weights; scratch-weights = λ e. refl; scratch-points = λ e. refl }
+  changed-tidy s abandons t g = record { points = t .points; weights = t .weights; scratch-weights = λ e. refl; scratch-points = λ e. refl }
   changed-tidy s reads t g = t
 
   -- ---- EVERY CALL KEEPS IT

@@ -46,7 +46,7 @@ abbrev pub Unfit : Format → Param → Type 0
 Unfit f (by-params n p) = (NotFinite (scaleOf f n p) ⊎ NotAbove (scaleOf f n p)) ⊎ (NotFinite (w0mOf f n p) ⊎ (NotFinite (w0cOf f n p) ⊎ NotFinite (wiOf f n p)))
 Unfit f (by-kind k) = UnfitTurn f (k .residual)
 
--- 7 and 8: a pivot isn't finite or isn't above 0; 9: a listed step result isn't finite; 5: root of a number below zero
+-- 7 and 8: a pivot isn't finite or isn't above 0; 9: a listed step result isn't finite; 5: root of a number that isn't finite or is below zero
 abbrev pub Fails : Result → Type 0
 Fails (numbers v) = Some NotFinite v
 Fails (pivot r x) = NotFinite x ⊎ NotAbove x

@@ -40,10 +40,10 @@ pub record Sound (f : Format) (s : Filter) : Type 0 where
   pub drawn-weights : isShut (s .stage) ≡ false → Filled (s .n + s .n + 1) 17 (s .«drawn_weights»)
   pub drawn-points : isShut (s .stage) ≡ false → Filled (pointNumbers (s .n)) 136 (s .«drawn_points»)
 
--- beside it, of a filter that no one has put at will: unused places of the points and weights are +0 while stale too, and scratch is +0 while nothing is open
+-- beside it, of a filter that no one has put at will: points and weights are finite with +0 in unused places while stale too, and scratch is +0 while nothing is open
 pub record Tidy (s : Filter) : Type 0 where
-  pub unused : drop (pointNumbers (s .n)) (s .points) ≡ zeros (136 - pointNumbers (s .n))
-  pub unused-weights : drop (s .n + s .n + 1) (s .weights) ≡ zeros (17 - (s .n + s .n + 1))
+  pub points : Filled (pointNumbers (s .n)) 136 (s .points)
+  pub weights : Filled (s .n + s .n + 1) 17 (s .weights)
   pub scratch-weights : isShut (s .stage) ≡ true → s .«drawn_weights» ≡ zeros 17
   pub scratch-points : isShut (s .stage) ≡ true → s .«drawn_points» ≡ zeros 136
 

@@ -36,7 +36,7 @@ unfoldable pub toldBy : Build → Filter → List Call → List Told
 toldBy b s [] = []
 toldBy b s (c ∷ cs) = tells (b s c) ∷ toldBy b (b s c .filter) cs
 
--- the table, C9 to C11
+-- the table, C9 to C12 through the calls
 abbrev pub tableBy : Build → List (String × Bool)
 tableBy b = against story (toldBy b at-first (map (λ e. e .1 .0) story))
 

@@ -20,7 +20,7 @@ use Rattle.filter.specs.declared.Stage.the-variants.{Shut, Predicting, C
 use Rattle.filter.specs.declared.Weighted.{Weighted}
 use Rattle.filter.specs.declared.Filter.{Filter}
 use Rattle.filter.specs.Asked.{Size, Lent, Param, by-params, by-kind, Asks}
-use Rattle.filter.specs.Filters.{isShut, isPredicting, isCorrecting, Setting, x-set, p-set, q-set, params-set, kinds-set, opened-prediction, opened-correction, Closing, Change, sets, closes, abandons, reads}
+use Rattle.filter.specs.Filters.{isShut, isPredicting, isCorrecting, Setting, x-set, p-set, q-set, params-set, kinds-set, opened-prediction, opened-correction, Change, sets, closes, abandons, reads}
 
 -- ---- the calls with their inputs, by what may be open when they are taken: nothing; their own; anything. A list is a lent slice.
 

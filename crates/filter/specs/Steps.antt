@@ -1,7 +1,7 @@
 -- One step of a filter: every contract of a call cites it. A refused call changes nothing and hands out nothing. Definitions only.
 use Prim.Native.Nat.{ℕ}
 use mathlib.Core.Bool.{Bool, true}
-use mathlib.Core.List.{List, [], _∷_}
+use mathlib.Core.List.{List, []}
 use lib.ListN.{getD}
 use lib.Ieee.{Float, Format}
 use Rattle.floats.specs.Refusal.{number, taken, Outcome, refused, accepted}

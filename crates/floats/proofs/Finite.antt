@@ -5,11 +5,11 @@ use mathlib.Core.List.{List, [], _∷_, _++_}
 use Prim.Native.Nat.{ℕ, zero, suc, _+_, _<_, _≤_}
 use native.Mathlib.Numerals.{add-one}
 use native.Mathlib.Omega.{arith}
-use lib.ListN.{length, take, getD, replicate}
+use lib.ListN.{length, take, getD}
 use lib.Seq.{take-suc}
 use lib.Ieee.{Float, nan, inf, fin, lt}
 use lib.Ieee.Scale.{finite}
-use Rattle.floats.specs.Numbers.{plusZero, zeros, allFinite}
+use Rattle.floats.specs.Numbers.{zeros, allFinite}
 
 -- ---- one number
 pub under-top : (x : Float) → lt x (inf false) ≡ true → lt (inf true) x ≡ finite x

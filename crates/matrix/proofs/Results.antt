@@ -1,12 +1,11 @@
 -- Works and plans (specs/Results.antt): the first result that fails decides, and a work is accepted where none fails; then the steps of code that follows a plan,
 -- in the code's own terms. What is left of the plan comes to the whole outcome. Assumes nothing.
-use Prim.Native.Nat.{ℕ, _<_}
+use Prim.Native.Nat.{ℕ}
 use mathlib.Core.Path.{_≡_, refl, sym, ap, _∙_}
 use mathlib.Core.Bool.{Bool, true, false, not}
 use mathlib.Core.List.{List, [], _∷_, _++_}
-use mathlib.Core.Logic.{_↔_, _≢_, _⊎_, inl, inr, ⊎-elim}
+use mathlib.Core.Logic.{_↔_, _≢_, ⊎-elim}
 use borrow.Author.Tests.{not-true, not-false}
-use native.Mathlib.Omega.{arith}
 use lib.ListN.{take}
 use lib.Ieee.{Float, binary64}
 use Rattle.floats.specs.Refusal.{Refusal, NUMBER, RANGE, number, Outcome, refused, accepted, refusal, or, unless, onward}

@@ -1,9 +1,9 @@
 -- The root's answer q for x taken apart: a value is the root of a number that has one; a number finite and above 0 is never refused. Assumes nothing.
-use mathlib.Core.Path.{_≡_, refl, sym, ap, _∙_}
+use mathlib.Core.Path.{_≡_, sym, ap, _∙_}
 use mathlib.Core.Bool.{true, false, true≢false}
 use mathlib.Core.Logic.{⊎-elim}
 use lib.Ieee.{Float, binary64}
-use Rattle.floats.specs.Refusal.{NUMBER, refused, accepted}
+use Rattle.floats.specs.Refusal.{NUMBER, accepted}
 use Rattle.floats.specs.Numbers.{aboveZero}
 use Rattle.floats.proofs.Refusals.{refused-never, passed, failed}
 use Rattle.root.specs.Definition.{rootOf, rooted}

@@ -5,7 +5,7 @@ use mathlib.Core.Bool.{Bool, true, false}
 use mathlib.Core.List.{List, [], _∷_, _++_}
 use lib.ListN.{take}
 use lib.Ieee.{Float}
-use Rattle.floats.specs.Refusal.{Refusal, NUMBER, RANGE, Outcome, refused, accepted, unless, onward}
+use Rattle.floats.specs.Refusal.{Refusal, NUMBER, RANGE, Outcome, accepted, unless, onward}
 use Rattle.floats.specs.Numbers.{allFinite, aboveZero}
 use Rattle.root.specs.Definition.{rooted}
 

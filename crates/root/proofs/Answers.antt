@@ -1,19 +1,19 @@
 -- The theorems of this crate, for a reader and for whoever calls a root. `Laws` has those that hold in every format. Assumes nothing.
 use mathlib.Core.Path.{_≡_, refl, sym, ap, _∙_, subst}
-use mathlib.Core.Bool.{Bool, true, false, not, false≢true}
+use mathlib.Core.Bool.{Bool, true, false, false≢true}
 use native.Mathlib.Omega.{arith}
 use Prim.Native.Nat.{ℕ, zero, suc, _*_, _<_}
 use lib.IntN.{ℤ}
 use lib.Dec.{T, ltb→lt}
-use lib.Ieee.{Float, nan, inf, fin, Format, binary64, up, down, fits, isNan, lt}
-use Rattle.floats.specs.Refusal.{NUMBER, Outcome, refused, accepted, unless}
+use lib.Ieee.{Float, nan, inf, fin, Format, binary64, up, down, fits, lt}
+use Rattle.floats.specs.Refusal.{NUMBER, accepted, unless}
 use Rattle.floats.specs.Numbers.{aboveZero}
 use Rattle.root.specs.Definition.{rootOf, rooted}
 use Rattle.root.specs.Nearest.{Nearest}
 use Rattle.root.specs.Answer.{outcomeOf, rootOutcome, given, answer, Asked}
 use Rattle.root.specs.declared.Root.{Root}
 use Rattle.root.specs.declared.Root.the-variants.{Value, Refused}
-use Rattle.root.proofs.Laws.{root-fits, root-rooted, root-above, root-nearest, root-only, zero-nearest}
+use Rattle.root.proofs.Laws.{root-fits, root-above, root-nearest, root-only, zero-nearest}
 
 -- ---- the root over the format
 -- THE ROOT IS A VALUE OF THE FORMAT.
@@ -24,24 +24,6 @@ root-held f (inf s) h r = absurd r
 root-held f (fin s zero e) h r = h
 root-held f (fin true (suc m) e) h r = absurd r
 root-held f (fin false (suc m) e) h r = root-fits f m e h
-
--- It has a root itself: it is finite, and a zero or above zero.
-root-again : (f : Format) (x : Float) → T (fits f x) → T (rooted x) → T (rooted (rootOf f x))
-unfolding rooted rootOf
-root-again f nan h r = absurd r
-root-again f (inf s) h r = absurd r
-root-again f (fin s zero e) h r = tt
-root-again f (fin true (suc m) e) h r = absurd r
-root-again f (fin false (suc m) e) h r = root-rooted f m e h
-
-rooted-number : (x : Float) → T (rooted x) → T (not (isNan x))
-unfolding rooted isNan
-rooted-number nan r = absurd r
-rooted-number (inf s) r = tt
-rooted-number (fin s m e) r = tt
-
-pub root-no-nan : (f : Format) (x : Float) → T (fits f x) → T (rooted x) → T (not (isNan (rootOf f x)))
-root-no-nan f x h r = rooted-number (rootOf f x) (root-again f x h r)
 
 -- NO VALUE OF THE FORMAT IS NEARER TO THE EXACT ROOT of an x that has one. Above zero nothing else is as near (`root-only` of Laws.antt).
 -- To the root of a zero both zeros are nearest, and nothing else (`zero-only` there): nearness does not choose between them.
@@ -73,9 +55,6 @@ one-case (Value r) Refused k = let z : _≡_ {A = ℕ} 0 1 = cc in absurd (omega
 one-case Refused (Value q) k = let z : _≡_ {A = ℕ} 0 1 = cc in absurd (omega arith)
 one-case Refused Refused k = refl
 
-pub answer-is : (a : Root) (x : Float) → outcomeOf a ≡ rootOutcome binary64 x → a ≡ answer x
-answer-is a x k = one-case a (answer x) (k ∙ sym (outcome-answer x))
-
 -- THE ANSWER IS WHAT DOCUMENT 01 ASKS, for every f64 (each fits its format).
 pub asked : (x : Float) → T (fits binary64 x) → Asked x (answer x)
 unfolding rooted rootOf
@@ -98,20 +77,6 @@ pub two-answers : (x : Float) (a b : Root) → T (fits binary64 x) → Asked x a
 two-answers x a b h k l = asked-only x a h k ∙ sym (asked-only x b h l)
 
 -- ---- for callers
--- Where a value is answered, x has a root, and the value is it.
-pub value-is : (x v : Float) → answer x ≡ Value v → T (rooted x) × (v ≡ rootOf binary64 x)
-value-is x v e = given-value (rooted x) (rootOf binary64 x) v e
-  where
-    zero-is-no-one : _≡_ {A = ℕ} 0 1 → ⊥
-    zero-is-no-one z = omega arith
-
-    given-value : (b : Bool) (r v : Float) → given b r ≡ Value v → T b × (v ≡ r)
-    given-value true r v e = (tt, (let z : r ≡ v = cc in sym z))
-    given-value false r v e = let z : _≡_ {A = ℕ} 0 1 = cc in absurd (zero-is-no-one z)
-
-pub value-no-nan : (x v : Float) → T (fits binary64 x) → answer x ≡ Value v → T (not (isNan v))
-value-no-nan x v h e = let k = value-is x v e in subst (λ (y : Float). T (not (isNan y))) (sym (k .1)) (root-no-nan binary64 x h (k .0))
-
 -- WHAT IS ABOVE ZERO ALWAYS HAS A ROOT: a pivot that passes is never refused here.
 pub above-rooted : (x : Float) → aboveZero x ≡ true → rooted x ≡ true
 unfolding aboveZero lt rooted
@@ -120,9 +85,6 @@ above-rooted (inf s) t = t
 above-rooted (fin s zero e) t = refl
 above-rooted (fin true (suc m) e) t = t
 above-rooted (fin false (suc m) e) t = refl
-
-pub above-has-root : (x : Float) → aboveZero x ≡ true → answer x ≡ Value (rootOf binary64 x)
-above-has-root x t = ap (λ (b : Bool). given b (rootOf binary64 x)) (above-rooted x t)
 
 -- AND ITS ROOT IS ABOVE ZERO, so it can be divided by.
 pub above-root-above : (f : Format) (x : Float) → T (fits f x) → aboveZero x ≡ true → aboveZero (rootOf f x) ≡ true
@@ -135,6 +97,3 @@ above-root-above f (fin false zero e) h t = absurd (none (down e) (up e) (ltb→
     none : (a b : ℕ) → 0 * 1 * a < 0 * b * 1 → ⊥
     none a b h = omega arith
 above-root-above f (fin false (suc m) e) h t = root-above f m e h
-
-pub value-above : (x v : Float) → T (fits binary64 x) → aboveZero x ≡ true → answer x ≡ Value v → aboveZero v ≡ true
-value-above x v h t e = subst (λ (y : Float). aboveZero y ≡ true) (sym (value-is x v e .1)) (above-root-above binary64 x h t)
