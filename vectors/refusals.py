@@ -1,7 +1,7 @@
-"""Every refusal of every call that can give it, each held against the next one in the order 3, 1, 2, 4, 5, 6, then 7, 8, 9 as met.
-The answers stand here as they were written by hand from the specification; run, it writes them as a script of calls (docs/SCRIPT.md) and its answers:
+"""Every refusal of every call that can give it, each held against the next one in the order 3, 1, 2, 4, 5, 10, 6, then 7, 8, 9 as met.
+The answers stand here as they were written by hand from documents 01 and 02; run, it writes them as a script of calls (docs/SCRIPT.md) and its answers:
     refusals.py SCRIPT ANSWERS
-A number with a point, nan or inf becomes the bits of an f64, [..] a list with its length in front, and bK what place K of a lent buffer holds before a call."""
+A number with a point, nan, inf or a power 2^K becomes the bits of an f64, [..] a list with its length in front, and bK what place K of a lent buffer holds before a call."""
 import sys
 
 sys.dont_write_bytecode = True
@@ -9,6 +9,7 @@ from records import word
 
 BIG = '1.5e308'
 HUGE = '1.0e200'
+MOST = '1.7976931348623157e308'
 
 CALLS = [
     '# before the first new: the empty filter. Nothing is open, so closes and abandon are 3; every other call is 1, whatever its slices and numbers',
@@ -21,6 +22,7 @@ CALLS = [
     ('openc 0', '1 0'),
     ('closep []', '3'),
     ('closec 9 [] [] p p p p []', '3'),
+    ('closef 9 [nan] [] []', '3'),
     ('abandon', '3'),
     ('readx 0', '1 0'),
     ('readp 1', '1 1 b0'),
@@ -56,6 +58,8 @@ CALLS = [
     '# nothing open: closes and abandon are 3, before 1 (m = 9), 2 and 5',
     ('closep []', '3'),
     ('closec 9 [nan] [] p p p p []', '3'),
+    ('closef 9 [nan] [] []', '3'),
+    ('closef 1 [6.0] [10.0] [2.0 5.0 -1.0]', '3'),
     ('abandon', '3'),
     '# setters: 2 before 5, then 5; what they refuse they leave',
     ('setx []', '2'),
@@ -105,7 +109,7 @@ CALLS = [
     ('setpar 1.0 0.0 0.0', '0'),
     ('setx [2.0]', '0'),
     ('setp [4.0]', '0'),
-    '# an open prediction: setters, opens and the other close are 3, before 2, 5 and 6; readings are taken',
+    '# an open prediction: setters, opens and the other closes are 3, before 2, 5 and 6; readings are taken',
     ('openp 4', '0 4 2.0 4.0 0.0 b3'),
     ('setx []', '3'),
     ('setp [nan]', '3'),
@@ -115,6 +119,8 @@ CALLS = [
     ('openp 0', '3 0'),
     ('openc 0', '3 0'),
     ('closec 9 [] [] p p p p []', '3'),
+    ('closef 9 [nan] [] []', '3'),
+    ('closef 1 [6.0] [10.0] [2.0 5.0 -1.0]', '3'),
     ('readx 1', '0 1 2.0'),
     ('readpts 3', '4 3 b0 b1 b2'),
     ('readstale', '0 1'),
@@ -153,6 +159,29 @@ CALLS = [
     ('closec 1 [3.0] [12.0] p p p p [0.0 ' + HUGE + ' -' + HUGE + ']', '9'),
     ('closec 1 [3.0] [1.0e-310] p p p p [2.0 2.0 2.0]', '9'),
     ('closec 1 [' + BIG + '] [12.0] p p p p [-' + BIG + ' -' + BIG + ' -' + BIG + ']', '9'),
+    '# its flat close: 1 before 2, 2 before 5, 5 before 8 and 9; never 6, for it takes no kinds and the parameters have passed',
+    ('closef 0 [] [] []', '1'),
+    ('closef 5 [] [] []', '1'),
+    ('closef 18446744073709551615 [nan] [] []', '1'),
+    ('closef 1 [] [nan] [2.0 5.0 -1.0]', '2'),
+    ('closef 1 [nan] [] [2.0 5.0 -1.0]', '2'),
+    ('closef 1 [nan] [10.0] [2.0 5.0]', '2'),
+    ('closef 2 [6.0] [10.0 0.0 0.0 1.0] [nan 2.0 5.0 2.0 -1.0 2.0]', '2'),
+    ('closef 2 [6.0 9.0] [10.0 0.0 0.0] [2.0 nan 5.0 2.0 -1.0 2.0]', '2'),
+    ('closef 2 [6.0 9.0] [10.0 0.0 nan 1.0] [2.0 2.0 5.0 2.0 -1.0]', '2'),
+    ('closef 1 [nan] [-10.0] [2.0 5.0 -1.0]', '5'),
+    ('closef 1 [6.0] [-inf] [' + BIG + ' ' + BIG + ' 0.0]', '5'),
+    ('closef 1 [6.0] [-10.0] [2.0 5.0 inf]', '5'),
+    ('closef 2 [6.0 nan] [-10.0 0.0 0.0 1.0] [2.0 2.0 5.0 2.0 -1.0 2.0]', '5'),
+    '# 8: S = 6 - 10, S = 0; before 9 at y. 9 before 8: the sum for z mean, S',
+    ('closef 1 [6.0] [-10.0] [2.0 5.0 -1.0]', '8'),
+    ('closef 1 [6.0] [0.0] [2.0 2.0 2.0]', '8'),
+    ('closef 1 [' + MOST + '] [-10.0] [-2^1000 -2^1000 -2^1000]', '8'),
+    ('closef 1 [6.0] [-10.0] [' + BIG + ' ' + BIG + ' 0.0]', '9'),
+    ('closef 1 [6.0] [-10.0] [0.0 ' + HUGE + ' -' + HUGE + ']', '9'),
+    '# 9 at the inverse, at y',
+    ('closef 1 [6.0] [1.0e-310] [2.0 2.0 2.0]', '9'),
+    ('closef 1 [' + MOST + '] [10.0] [-2^1000 -2^1000 -2^1000]', '9'),
     ('dump', '0 n 1 x 2.0 P -4.0 Q 1.0 par 1.0 0.0 0.0 kinds p w 0.0 0.5 pts 2.0 4.0 0.0 stale 0 open c dw 0.0 0.5 dpts 2.0 4.0 0.0'),
     '# abandon: again what it was before the open, and the scratch is +0; then 3',
     ('abandon', '0'),
@@ -174,12 +203,67 @@ CALLS = [
     ('setpar 1.0 2.0 1.0', '0'),
     ('openc 3', '0 3 2.0 4.0 0.0'),
     ('closec 1 [3.0] [11.0] p p p p [2.0 4.0 0.0]', '0 x 2.0 P 3.4375'),
+    '# the flat close, after a refused weighted one: z mean = 6/3 = 2, S = (0 + 9 + 9)/3 + 10 = 16, C = (0*0 + 2*3 + (-2)*(-3))/3 = 4, K = 4/16, y = 4,',
+    '# x = 2 + 1, P = 5 - 4*0.25. What was opened is installed, stale, scratch +0; numbers past what is needed are not judged; then nothing is open, and a draw is fresh',
+    ('setpar 1.0 0.0 0.0', '0'),
+    ('setp [4.0]', '0'),
+    ('openp 3', '0 3 2.0 4.0 0.0'),
+    ('closep [2.0 4.0 0.0]', '0 x 2.0 P 5.0'),
+    ('openc 3', '0 3 2.0 4.0 0.0'),
+    ('closec 1 [6.0] [10.0] t 0.0 p p p [2.0 5.0 -1.0]', '6'),
+    ('closef 1 [6.0 nan] [10.0 inf] [2.0 5.0 -1.0 nan]', '0 x 3.0 P 4.0'),
+    ('dump', '0 n 1 x 3.0 P 4.0 Q 1.0 par 1.0 0.0 0.0 kinds p w 0.0 0.5 pts 2.0 4.0 0.0 stale 1 open - dw 0.0 0.0 dpts 0.0 0.0 0.0'),
+    ('readpts 3', '4 3 b0 b1 b2'),
+    ('closef 1 [6.0] [10.0] [2.0 5.0 -1.0]', '3'),
+    ('openc 3', '0 3 3.0 5.0 1.0'),
+    ('abandon', '0'),
+    '# the gain is added to the stored x, whatever the points: 10 + 1; a second measurement that shows 2 at every point has no part in it',
+    ('setx [2.0]', '0'),
+    ('openp 3', '0 3 2.0 4.0 0.0'),
+    ('closep [2.0 4.0 0.0]', '0 x 2.0 P 5.0'),
+    ('setx [10.0]', '0'),
+    ('openc 3', '0 3 2.0 4.0 0.0'),
+    ('closef 2 [6.0 9.0] [10.0 0.0 0.0 1.0] [2.0 2.0 5.0 2.0 -1.0 2.0]', '0 x 11.0 P 4.0'),
+    '# 9 at x mean, before 8: three points of 1e308 are finite and their sum is not; the weighted close (weights 0, 0.5, 0.5) takes them: C = 0, so x and P stay',
+    ('openp 3', '0 3 11.0 13.0 9.0'),
+    ('closep [1.0e308 1.0e308 1.0e308]', '0 x 1.0e308 P 1.0'),
+    ('openc 3', '0 3 1.0e308 1.0e308 1.0e308'),
+    ('closef 1 [6.0] [10.0] [2.0 5.0 -1.0]', '9'),
+    ('closef 1 [6.0] [-10.0] [2.0 5.0 -1.0]', '9'),
+    ('closec 1 [6.0] [7.0] p p p p [2.0 5.0 -1.0]', '0 x 1.0e308 P 1.0'),
+    '# 9 in the other steps of the flat close. Alpha 2^500 and P = 2^332 draw points 2^666 from x; the means of z and of x are 0 throughout. C, before 8 (S below 0):',
+    ('setpar 2^500 0.0 0.0', '0'),
+    ('setx [0.0]', '0'),
+    ('setp [2^332]', '0'),
+    ('openc 3', '0 3 0.0 2^666 -2^666'),
+    ('closef 1 [0.0] [-' + MOST + '] [0.0 2^500 -2^500]', '9'),
+    '# the entry 2^600/2^-500 of the factor of S, before 8 in the next column; 8 in its own column before it',
+    ('closef 2 [0.0 0.0] [2^-1000 0.0 2^600 -1.0] [0.0 0.0 0.0 0.0 0.0 0.0]', '9'),
+    ('closef 2 [0.0 0.0] [-1.0 0.0 2^600 1.0] [0.0 0.0 0.0 0.0 0.0 0.0]', '8'),
+    '# the gain (S = 2^-999/3), x (the gain near 2^665, y = 2^400), P (T near 2^1331)',
+    ('closef 1 [0.0] [0.0] [0.0 2^-500 -2^-500]', '9'),
+    ('closef 1 [2^400] [1.0] [0.0 1.0 -1.0]', '9'),
+    ('closef 1 [0.0] [1.0] [0.0 1.0 -1.0]', '9'),
+    ('abandon', '0'),
+    ('setx [2.0]', '0'),
     '# a turn: C12 through the calls. Propagated 179, -171, 169 about a half-turn of 180 has the mean 179, and P = 0.5*10*10 + 0.5*10*10 + Q',
     ('setpar 1.0 0.0 0.0', '0'),
     ('setkind 0 t 180.0', '0'),
     ('setp [4.0]', '0'),
     ('openp 3', '0 3 2.0 4.0 0.0'),
     ('closep [179.0 -171.0 169.0]', '0 x 179.0 P 101.0'),
+    '# a turn in the flat close: 1, 2 and 5 before 10, 10 before 8 and 9; nothing changes, and the call stays open',
+    ('openc 3', '0 3 179.0 -171.0 169.0'),
+    ('closef 5 [] [] []', '1'),
+    ('closef 1 [] [nan] [179.0 -171.0 169.0]', '2'),
+    ('closef 1 [nan] [12.0] [179.0 -171.0 169.0]', '5'),
+    ('closef 1 [179.0] [inf] [179.0 -171.0 169.0]', '5'),
+    ('closef 1 [179.0] [12.0] [179.0 -171.0 nan]', '5'),
+    ('closef 1 [179.0] [12.0] [179.0 -171.0 169.0]', '10'),
+    ('closef 1 [179.0] [-12.0] [2.0 2.0 2.0]', '10'),
+    ('closef 1 [179.0] [12.0] [' + BIG + ' ' + BIG + ' 0.0]', '10'),
+    ('dump', '0 n 1 x 179.0 P 101.0 Q 1.0 par 1.0 0.0 0.0 kinds t 180.0 w 0.0 0.5 pts 179.0 -171.0 169.0 stale 0 open c dw 0.0 0.5 dpts 179.0 -171.0 169.0'),
+    ('abandon', '0'),
     ('setkind 0 p', '0'),
     '# point k of a list: 1 before 2; the list is not judged',
     ('point 0 0 []', '1 0 0'),
@@ -203,13 +287,28 @@ CALLS = [
     ('setx 1 zz', 'bad'),
     ('setx', 'bad'),
     ('readx 1 1', 'bad'),
+    ('closef 1 [6.0] [10.0]', 'bad'),
+    ('closef 1 [6.0] [10.0] p p p p [2.0 5.0 -1.0]', 'bad'),
     ('dump', '0 n 1 x 179.0 P 101.0 Q 1.0 par 1.0 0.0 0.0 kinds p w 0.0 0.5 pts 179.0 -171.0 169.0 stale 0 open - dw 0.0 0.0 dpts 0.0 0.0 0.0'),
+    '# two states: one turn among them is enough for 10. Five points, so sums are divided by 5: S = (25 + 25)/5 + 6 = 16, C = (2*5 + (-2)*(-5))/5 = 4 and 0, K = 0.25 and 0',
+    ('new 2 [0.0 0.0] [4.0 0.0 0.0 4.0] [1.0 0.0 0.0 1.0] 1.0 0.0 -1.0', '0'),
+    ('setkind 1 t 180.0', '0'),
+    ('openc 10', '0 10 0.0 0.0 2.0 0.0 0.0 2.0 -2.0 0.0 0.0 -2.0'),
+    ('closef 1 [4.0] [6.0] [0.0 5.0 0.0 -5.0 0.0]', '10'),
+    ('abandon', '0'),
+    ('setkind 1 p', '0'),
+    ('openc 10', '0 10 0.0 0.0 2.0 0.0 0.0 2.0 -2.0 0.0 0.0 -2.0'),
+    ('closef 1 [4.0] [6.0] [0.0 5.0 0.0 -5.0]', '2'),
+    ('closef 1 [4.0] [6.0] [0.0 5.0 0.0 -5.0 0.0]', '0 x 1.0 0.0 P 3.0 0.0 0.0 4.0'),
 ]
 
 
 def token(t):
     if t[0] == 'b' and t[1:].isdigit():
         return '%016x' % (0x4330000000000000 + int(t[1:]))
+    if '2^' in t:
+        sign, power = t.split('2^')
+        return word(float(sign + '1') * 2.0 ** int(power))
     if t in ('nan', 'inf', '-inf') or '.' in t:
         return word(float(t))
     return t

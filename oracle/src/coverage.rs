@@ -1,9 +1,10 @@
-//! What scripts should meet: every number that a call can give, every step that can stop, every size.
+//! What scripts should meet: every number that a call can give, every stage and step that can stop it, every size.
 
+use crate::filter::Open;
 use crate::script::Table;
 
 /// The numbers that each call can give in a script. (Opening never gives 6; on the empty filter abandon and closes give 3.)
-pub const NUMBERS: [(&str, &[u8]); 21] = [
+pub const NUMBERS: [(&str, &[u8]); 22] = [
     ("new", &[0, 1, 2, 5, 6]),
     ("setx", &[0, 1, 2, 3, 5]),
     ("setp", &[0, 1, 2, 3, 5]),
@@ -15,6 +16,7 @@ pub const NUMBERS: [(&str, &[u8]); 21] = [
     ("openc", &[0, 1, 2, 3, 7, 9]),
     ("closep", &[0, 2, 3, 5, 9]),
     ("closec", &[0, 1, 2, 3, 5, 6, 8, 9]),
+    ("closef", &[0, 1, 2, 3, 5, 8, 9, 10]),
     ("readx", &[0, 1, 2]),
     ("readp", &[0, 1, 2]),
     ("readq", &[0, 1, 2]),
@@ -27,28 +29,33 @@ pub const NUMBERS: [(&str, &[u8]); 21] = [
     ("dump", &[0]),
 ];
 
-/// The steps in which a call can stop, in running order.
-pub const STEPS: [(&str, &[(u8, &str)]); 4] = [
-    ("openp", &[(7, "P's pivot"), (9, "P's factor entry"), (9, "points")]),
-    ("openc", &[(7, "P's pivot"), (9, "P's factor entry"), (9, "points")]),
-    ("closep", &[(9, "mean"), (9, "P")]),
-    (
-        "closec",
-        &[
-            (9, "z mean"),
-            (9, "S"),
-            (9, "x mean"),
-            (9, "cross covariance"),
-            (8, "S's pivot"),
-            (9, "S's factor entry"),
-            (9, "inverse"),
-            (9, "gain"),
-            (9, "y"),
-            (9, "x"),
-            (9, "P"),
-        ],
-    ),
+/// The stages and steps in which a call can stop, in running order.
+pub const STEPS: [(&str, &[(u8, &str)]); 5] =
+    [("openp", &OPEN), ("openc", &OPEN), ("closep", &PREDICTION), ("closec", &CORRECTION), ("closef", &CORRECTION)];
+
+const OPEN: [(u8, &str); 3] = [(7, "P's pivot"), (9, "P's factor entry"), (9, "points")];
+
+const PREDICTION: [(u8, &str); 4] = [(3, Open::Nothing.name()), (3, Open::Correction.name()), (9, "mean"), (9, "P")];
+
+/// Weighted or flat, the order is one.
+const CORRECTION: [(u8, &str); 13] = [
+    (3, Open::Nothing.name()),
+    (3, Open::Prediction.name()),
+    (9, "z mean"),
+    (9, "S"),
+    (9, "x mean"),
+    (9, "cross covariance"),
+    (8, "S's pivot"),
+    (9, "S's factor entry"),
+    (9, "inverse"),
+    (9, "gain"),
+    (9, "y"),
+    (9, "x"),
+    (9, "P"),
 ];
+
+/// The closes of a correction, each met with every n and m.
+pub const CORRECTIONS: [(&str, &str); 2] = [("closec", "correction"), ("closef", "flat correction")];
 
 /// How often a call gave a number, whatever the step.
 pub fn count(table: &Table, call: &str, number: u8) -> u64 {
@@ -74,9 +81,9 @@ pub fn holes(table: &Table) -> Vec<String> {
         if count_with(table, "closep", 0, &format!("n={n}")) == 0 {
             holes.push(format!("closep accepted with n={n}"));
         }
-        for m in 1..=4 {
-            if count_with(table, "closec", 0, &format!("n={n} m={m}")) == 0 {
-                holes.push(format!("closec accepted with n={n} m={m}"));
+        for (call, m) in CORRECTIONS.iter().flat_map(|(call, _)| (1..=4).map(move |m| (call, m))) {
+            if count_with(table, call, 0, &format!("n={n} m={m}")) == 0 {
+                holes.push(format!("{call} accepted with n={n} m={m}"));
             }
         }
     }

@@ -1,15 +1,25 @@
-//! Document 01's filter: its calls and refusals around the published Rust.
+//! The filter of documents 01 and 02: its calls and refusals around the published Rust.
 //! Each accepted close is worked out twice, by the published Rust and by `steps`; the two must agree in every bit.
 
 use crate::kinds::{is_half_turn, Kind};
 use crate::published::{self, Measurement, Published};
-use crate::steps::{self, all_finite, Correction, Params, Prediction, Stop, Weights};
+use crate::steps::{self, all_finite, Average, Correction, Params, Prediction, Stop, Weights};
 
 #[derive(Clone, Copy, Debug, PartialEq)]
 pub enum Open {
     Nothing,
     Prediction,
     Correction,
+}
+
+impl Open {
+    pub const fn name(self) -> &'static str {
+        match self {
+            Open::Nothing => "nothing open",
+            Open::Prediction => "prediction open",
+            Open::Correction => "correction open",
+        }
+    }
 }
 
 /// Why a call changed nothing: a refusal, or (never, we hope) that the published Rust and `steps` part.
@@ -25,7 +35,7 @@ impl From<Stop> for Trouble {
     }
 }
 
-/// Refusal `number` where this holds; the callers keep the order 3, 1, 2, 4, 5, 6.
+/// Refusal `number` where this holds; the callers keep the order 3, 1, 2, 4, 5, 10, 6.
 fn refuse_if(holds: bool, number: u8) -> Result<(), Stop> {
     if holds {
         Err(Stop { number, step: "" })
@@ -40,7 +50,7 @@ fn alike(what: &str, ours: &[f64], rust: &[f64]) -> Result<(), Trouble> {
         return Ok(());
     }
     let bits = |numbers: &[f64]| numbers.iter().map(|x| format!(" {:016x}", x.to_bits())).collect::<String>();
-    Err(Trouble::Parted(format!("{what}: document 01{}, published Rust{}", bits(ours), bits(rust))))
+    Err(Trouble::Parted(format!("{what}: documents 01 and 02{}, published Rust{}", bits(ours), bits(rust))))
 }
 
 /// How many numbers a point list holds.
@@ -233,9 +243,16 @@ impl Filter {
         self.drawn_weights = [0.0; 2];
     }
 
+    /// The checks that all closes begin with; of a 3 the table tells what was open.
+    fn closable(&self, wanted: Open) -> Result<usize, Stop> {
+        if self.open != wanted {
+            return Err(Stop { number: 3, step: self.open.name() });
+        }
+        self.sized()
+    }
+
     pub fn close_prediction(&mut self, propagated: &[f64]) -> Result<(), Trouble> {
-        refuse_if(self.open != Open::Prediction, 3)?;
-        let n = self.sized()?;
+        let n = self.closable(Open::Prediction)?;
         let propagated = front(propagated, list_length(n))?;
         let [w0c, wi] = self.drawn_weights;
         let w0m = Weights::of(n, self.par).w0m;
@@ -248,31 +265,49 @@ impl Filter {
         self.closed(false)
     }
 
-    pub fn close_correction(&mut self, m: u64, z: &[f64], r: &[f64], kinds: [Kind; 4], observed: &[f64]) -> Result<(), Trouble> {
-        refuse_if(self.open != Open::Correction, 3)?;
-        let n = self.sized()?;
+    /// What both closes of a correction begin with: 3, 1, 2, and 5 in what they are lent. No kinds yet: all plain.
+    fn measured<'a>(&self, m: u64, z: &'a [f64], r: &'a [f64], observed: &'a [f64]) -> Result<Measurement<'a>, Stop> {
+        let n = self.closable(Open::Correction)?;
         refuse_if(!(1..=4).contains(&m), 1)?;
         let m = m as usize;
         refuse_if(z.len() < m || r.len() < m * m || observed.len() < m * (2 * n + 1), 2)?;
-        let (z, r, kinds, observed) = (&z[..m], &r[..m * m], &kinds[..m], &observed[..m * (2 * n + 1)]);
+        let (z, r, observed) = (&z[..m], &r[..m * m], &observed[..m * (2 * n + 1)]);
         refuse_if(!(all_finite(z) && all_finite(r) && all_finite(observed)), 5)?;
+        Ok(Measurement { m, z, r, kinds: &[Kind::Plain; 4][..m], observed })
+    }
+
+    pub fn close_correction(&mut self, m: u64, z: &[f64], r: &[f64], kinds: [Kind; 4], observed: &[f64]) -> Result<(), Trouble> {
+        let with = self.measured(m, z, r, observed)?;
+        let kinds = &kinds[..with.m];
         pass_kinds(kinds)?;
+        self.corrected(Average::Weighted, &Measurement { kinds, ..with })
+    }
+
+    /// Request A1: averages know no kinds, so a filter with a turn is turned away.
+    pub fn close_flat(&mut self, m: u64, z: &[f64], r: &[f64], observed: &[f64]) -> Result<(), Trouble> {
+        let with = self.measured(m, z, r, observed)?;
+        refuse_if(self.kinds.iter().any(|kind| kind.half().is_some()), 10)?;
+        self.corrected(Average::Flat, &with)
+    }
+
+    fn corrected(&mut self, average: Average, with: &Measurement) -> Result<(), Trouble> {
         let ours = steps::correct(&Correction {
-            n,
-            m,
+            average,
+            n: self.n,
+            m: with.m,
             x: &self.x,
             p: &self.p,
             kinds: &self.kinds,
-            w0m: Weights::of(n, self.par).w0m,
+            w0m: Weights::of(self.n, self.par).w0m,
             w0c: self.drawn_weights[0],
             wi: self.drawn_weights[1],
             points: &self.drawn_points,
-            z,
-            r,
-            measured: kinds,
-            observed,
+            z: with.z,
+            r: with.r,
+            measured: with.kinds,
+            observed: with.observed,
         })?;
-        let left = self.rust_mut().correct(&Measurement { m, z, r, kinds, observed });
+        let left = self.rust_mut().correct(average, with);
         alike("points shown to the observation", &self.drawn_points, &left.shown)?;
         alike("cross covariance", &ours.c, &left.c)?;
         alike("factor of S", &ours.l, &left.l)?;

@@ -1,4 +1,4 @@
-//! The published unscented filter of minikalman 0.8.1 over support code of our own, with document 01's calls around it.
+//! The published unscented filter of minikalman 0.8.1 over support code of our own, with the calls of documents 01 and 02 around it.
 //!
 //! The published files think that this crate is minikalman: the modules `kalman`, `matrix`, `observations`, `prelude`
 //! and `angles` stand where they look for them. Everything else is ours.

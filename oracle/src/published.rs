@@ -1,5 +1,5 @@
 //! The published filter held at any size, with hands on what it keeps. It is asked for nothing that its text doesn't offer:
-//! predict, correct, the setters and the residual hooks. It refuses nothing.
+//! predict, correct by either average, the setters and the residual hooks. It refuses nothing.
 
 use std::cell::RefCell;
 
@@ -9,7 +9,7 @@ use crate::kalman::*;
 use crate::kinds::Kind;
 use crate::matrix::{AsMatrix, Matrix, MatrixMut};
 use crate::observations::unscented::UnscentedObservation;
-use crate::steps::Params;
+use crate::steps::{Average, Params};
 
 thread_local! {
     /// The hook for state residuals is a bare function pointer, so the kinds stand beside it.
@@ -44,7 +44,7 @@ pub struct Left {
     pub t: Vec<f64>,
 }
 
-/// A measurement as a close of a correction gives it.
+/// A measurement as a close of a correction gives it; the flat average reads no kinds.
 pub struct Measurement<'a> {
     pub m: usize,
     pub z: &'a [f64],
@@ -62,7 +62,7 @@ pub trait Published {
     fn set_kinds(&mut self, kinds: &[Kind]);
     /// Predicts, with these as the propagated points; hands back the points that it drew.
     fn predict(&mut self, propagated: &[f64]) -> Vec<f64>;
-    fn correct(&mut self, with: &Measurement) -> Left;
+    fn correct(&mut self, average: Average, with: &Measurement) -> Left;
     /// The points that a first correction draws; spends the filter.
     fn refreshed(self: Box<Self>) -> Drawn;
     fn x(&self) -> Vec<f64>;
@@ -98,6 +98,22 @@ type Filter<const N: usize, const COUNT: usize> = UnscentedKalman<
     Shown<COUNT>,
     Grid<N, COUNT>,
     Grid<N, N>,
+>;
+
+type Observation<'a, const N: usize, const M: usize, const COUNT: usize> = UnscentedObservation<
+    N,
+    M,
+    COUNT,
+    f64,
+    Grid<M, COUNT>,
+    &'a mut Grid<N, M>,
+    Grid<M, 1>,
+    Grid<M, M>,
+    &'a mut Grid<M, 1>,
+    &'a mut Grid<M, M>,
+    &'a mut Grid<N, M>,
+    &'a mut Grid<M, M>,
+    &'a mut Grid<N, N>,
 >;
 
 /// The published filter of N states and COUNT points.
@@ -141,30 +157,35 @@ impl<const N: usize, const COUNT: usize> Held<N, COUNT> {
         self.filter.predict_nonlinear(transition);
     }
 
-    pub fn correct_of<const M: usize>(&mut self, with: &Measurement) -> Left {
+    pub fn correct_of<const M: usize>(&mut self, average: Average, with: &Measurement) -> Left {
         STATE_KINDS.set(self.kinds.clone());
         let (mut y, mut s, mut k, mut v) = (Grid::<M, 1>::zero(), Grid::<M, M>::zero(), Grid::<N, M>::zero(), Grid::<M, M>::zero());
         let (mut c, mut t) = (Grid::<N, M>::zero(), Grid::<N, N>::zero());
         let mut shown = Vec::new();
-        let mut observation = UnscentedObservation::<N, M, COUNT, f64, _, _, _, _, _, _, _, _, _>::new(
-            Grid::<M, 1>::from_rows(with.z),
-            Grid::<M, M>::from_rows(with.r),
+        let mut observation: Observation<N, M, COUNT> = UnscentedObservation::new(
+            Grid::from_rows(with.z),
+            Grid::from_rows(with.r),
             &mut y,
             &mut s,
             &mut k,
             &mut v,
-            Grid::<M, COUNT>::zero(),
+            // In place from the start: `correct_nonlinear` asks no function for what is observed.
+            Grid::from_points(with.observed),
             &mut c,
             &mut t,
         );
-        self.filter.correct_sigma_point_with(
-            &mut observation,
-            |points: &Grid<N, COUNT>, observed: &mut Grid<M, COUNT>| {
-                shown = points.points();
-                *observed = Grid::from_points(with.observed);
-            },
-            |dz: &mut [f64]| fix(with.kinds, dz),
-        );
+        match average {
+            Average::Weighted => self.filter.correct_sigma_point_with(
+                &mut observation,
+                |points: &Grid<N, COUNT>, _: &mut Grid<M, COUNT>| shown = points.points(),
+                |dz: &mut [f64]| fix(with.kinds, dz),
+            ),
+            Average::Flat => self.filter.correct_sigma_point_with(
+                &mut Flat(observation),
+                |points: &Grid<N, COUNT>, _: &mut ()| shown = points.points(),
+                |_: &mut [f64]| {},
+            ),
+        }
         Left { shown, c: c.rows(), l: s.rows(), v: v.rows(), k: k.rows(), y: y.rows(), t: t.rows() }
     }
 }
@@ -206,12 +227,12 @@ impl<const N: usize, const COUNT: usize> Published for Held<N, COUNT> {
         drawn
     }
 
-    fn correct(&mut self, with: &Measurement) -> Left {
+    fn correct(&mut self, average: Average, with: &Measurement) -> Left {
         match with.m {
-            1 => self.correct_of::<1>(with),
-            2 => self.correct_of::<2>(with),
-            3 => self.correct_of::<3>(with),
-            4 => self.correct_of::<4>(with),
+            1 => self.correct_of::<1>(average, with),
+            2 => self.correct_of::<2>(average, with),
+            3 => self.correct_of::<3>(average, with),
+            4 => self.correct_of::<4>(average, with),
             _ => unreachable!("sizes are tested before"),
         }
     }
@@ -254,5 +275,38 @@ impl<const N: usize, const COUNT: usize> KalmanFilterUnscentedObservationCorrect
         NX: FnMut(&mut [f64]),
         NZ: FnMut(&mut [f64]),
     {
+    }
+}
+
+/// An observation that corrects by the published `correct_nonlinear`. The published filter only ever calls the weighted one, so this stands
+/// where that is called: the filter redraws stale points, keeps points and weights, and marks itself stale as after any correction.
+struct Flat<'a, const N: usize, const M: usize, const COUNT: usize>(Observation<'a, N, M, COUNT>);
+
+impl<const N: usize, const M: usize, const COUNT: usize> KalmanFilterUnscentedObservationCorrectFilter<N, M, COUNT, f64>
+    for Flat<'_, N, M, COUNT>
+{
+    type ObservedSigmaPoints = ();
+    #[allow(non_snake_case)]
+    fn correct_with_observed_residuals<X, P, SP, F, W, NX, NZ>(
+        &mut self,
+        x: &mut X,
+        P: &mut P,
+        points: &SP,
+        _: &W,
+        _: f64,
+        mut observation: F,
+        _: NX,
+        _: NZ,
+    ) where
+        X: StateVectorMut<N, f64>,
+        P: EstimateCovarianceMatrix<N, f64>,
+        SP: AsMatrix<N, COUNT, f64>,
+        W: AsMatrix<COUNT, 1, f64>,
+        F: FnMut(&SP, &mut ()),
+        NX: FnMut(&mut [f64]),
+        NZ: FnMut(&mut [f64]),
+    {
+        observation(points, &mut ());
+        self.0.correct_nonlinear(x, P, points);
     }
 }

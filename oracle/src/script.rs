@@ -10,7 +10,7 @@ use crate::steps::Params;
 pub const LINE: usize = 16_384;
 pub const LIST: u64 = 512;
 
-/// How often each call gave each number, and with it the step that refused or, of an accepted close, the sizes.
+/// How often each call gave each number, and with it the stage or step that refused or, of an accepted close, the sizes.
 pub type Table = BTreeMap<(&'static str, u8, String), u64>;
 
 /// What a `bad` line counts as.
@@ -40,7 +40,7 @@ impl Default for Reader {
 }
 
 impl Reader {
-    /// The answer to a line (without its line end), if it gets one. An error says where the published Rust parts from document 01.
+    /// The answer to a line (without its line end), if it gets one. An error says where the published Rust parts from documents 01 and 02.
     pub fn answer(&mut self, line: &[u8]) -> Result<Option<String>, String> {
         let told = if line.len() > LINE {
             Err(Bad)
@@ -96,6 +96,10 @@ impl Reader {
             Call::CloseC(m, z, r, kinds, observed) => {
                 let outcome = filter.close_correction(m, &z, &r, kinds, &observed);
                 closed("closec", outcome, filter, format!(" m={m}"))
+            }
+            Call::CloseF(m, z, r, observed) => {
+                let outcome = filter.close_flat(m, &z, &r, &observed);
+                closed("closef", outcome, filter, format!(" m={m}"))
             }
             Call::ReadPar => told("readpar", filter.read_params(), |number, par| {
                 let par = par.unwrap_or_default();
@@ -207,6 +211,7 @@ enum Call {
     Lent(Lent, u64),
     CloseP(Vec<f64>),
     CloseC(u64, Vec<f64>, Vec<f64>, [Kind; 4], Vec<f64>),
+    CloseF(u64, Vec<f64>, Vec<f64>, Vec<f64>),
     ReadPar,
     ReadStale,
     Point(u64, u64, Vec<f64>),
@@ -234,6 +239,7 @@ fn call(word: &[u8], mut tokens: Tokens) -> Result<Call, Bad> {
         b"readpts" => Call::Lent(Lent::Points, t.length()?),
         b"closep" => Call::CloseP(t.list()?),
         b"closec" => Call::CloseC(t.size()?, t.list()?, t.list()?, [t.kind()?, t.kind()?, t.kind()?, t.kind()?], t.list()?),
+        b"closef" => Call::CloseF(t.size()?, t.list()?, t.list()?, t.list()?),
         b"readpar" => Call::ReadPar,
         b"readstale" => Call::ReadStale,
         b"point" => Call::Point(t.size()?, t.size()?, t.list()?),

@@ -1,4 +1,4 @@
-//! Document 01's steps worked out a second time, plainly and with its checks for 7, 8 and 9 in running order.
+//! The steps of documents 01 and 02 worked out a second time, plainly and with their checks for 7, 8 and 9 in running order.
 //! Shares no code with the leaves that lie under the published Rust, so that the two can be held against each other.
 
 use crate::kinds::Kind;
@@ -158,6 +158,26 @@ fn added(a: &[f64], b: &[f64]) -> Vec<f64> {
     a.iter().zip(b).map(|(a, b)| a + b).collect()
 }
 
+/// How a correction averages: by document 01's weights, or flat as request A1 has it, where a sum is divided by how many points there are.
+#[derive(Clone, Copy, Debug, PartialEq)]
+pub enum Average {
+    Weighted,
+    Flat,
+}
+
+/// The flat mean of points of d numbers each.
+fn flat_mean(points: &[f64], d: usize) -> Vec<f64> {
+    let count = points.len() / d;
+    (0..d).map(|i| (0..count).fold(0.0, |sum, k| sum + points[k * d + i]) / count as f64).collect()
+}
+
+/// Sum over the points of a[i]·b[j], rows×columns; each entry is summed, then divided.
+fn flat_spread(a: &[f64], b: &[f64], rows: usize, columns: usize) -> Vec<f64> {
+    let count = a.len() / rows;
+    let entry = |i: usize, j: usize| (0..count).fold(0.0, |sum, k| sum + a[k * rows + i] * b[k * columns + j]) / count as f64;
+    (0..rows).flat_map(|i| (0..columns).map(move |j| (i, j))).map(|(i, j)| entry(i, j)).collect()
+}
+
 /// What a close of a prediction works from.
 pub struct Prediction<'a> {
     pub n: usize,
@@ -178,8 +198,9 @@ pub fn predict(given: &Prediction) -> Result<(Vec<f64>, Vec<f64>), Stop> {
     Ok((x, p))
 }
 
-/// What a close of a correction works from.
+/// What a close of a correction works from. The flat average reads no weights, and its kinds are all plain.
 pub struct Correction<'a> {
+    pub average: Average,
     pub n: usize,
     pub m: usize,
     pub x: &'a [f64],
@@ -195,6 +216,22 @@ pub struct Correction<'a> {
     pub observed: &'a [f64],
 }
 
+impl Correction<'_> {
+    fn mean(&self, points: &[f64], d: usize, kinds: &[Kind]) -> Vec<f64> {
+        match self.average {
+            Average::Weighted => mean(points, d, kinds, self.w0m, self.wi),
+            Average::Flat => flat_mean(points, d),
+        }
+    }
+
+    fn spread(&self, a: &[f64], b: &[f64], rows: usize, columns: usize) -> Vec<f64> {
+        match self.average {
+            Average::Weighted => spread(a, b, rows, columns, self.w0c, self.wi),
+            Average::Flat => flat_spread(a, b, rows, columns),
+        }
+    }
+}
+
 /// x and P after a correction, and what was worked out on the way, under document 01's letters.
 #[derive(Clone, Debug)]
 pub struct Corrected {
@@ -208,14 +245,15 @@ pub struct Corrected {
     pub t: Vec<f64>,
 }
 
+/// Both closes of a correction. They differ in their means and sums, not in the order of their steps; from C on they are one.
 pub fn correct(given: &Correction) -> Result<Corrected, Stop> {
-    let (n, m, w0c, wi) = (given.n, given.m, given.w0c, given.wi);
-    let z_mean = checked(mean(given.observed, m, given.measured, given.w0m, wi), "z mean")?;
+    let (n, m) = (given.n, given.m);
+    let z_mean = checked(given.mean(given.observed, m, given.measured), "z mean")?;
     let dz = deviations(given.observed, m, given.measured, &z_mean);
-    let s = checked(added(given.r, &spread(&dz, &dz, m, m, w0c, wi)), "S")?;
-    let x_mean = checked(mean(given.points, n, given.kinds, given.w0m, wi), "x mean")?;
+    let s = checked(added(given.r, &given.spread(&dz, &dz, m, m)), "S")?;
+    let x_mean = checked(given.mean(given.points, n, given.kinds), "x mean")?;
     let dx = deviations(given.points, n, given.kinds, &x_mean);
-    let c = checked(spread(&dx, &dz, n, m, w0c, wi), "cross covariance")?;
+    let c = checked(given.spread(&dx, &dz, n, m), "cross covariance")?;
     let l = factor(&s, m, Stop { number: 8, step: "S's pivot" }, "S's factor entry")?;
     let v = checked(inverse(&l, m), "inverse")?;
     let k = checked(times_transposed(&c, &v, n, m, m), "gain")?;

@@ -1,14 +1,14 @@
-//! Document 01's cases and the example of docs/SCRIPT.md, held to answers written by hand.
+//! Document 01's cases, the flat close of document 02's A1 and the example of docs/SCRIPT.md, held to answers written by hand.
 
 use oracle::script::Reader;
 
 fn answers(script: &str) -> Vec<String> {
     let mut reader = Reader::default();
-    script.lines().filter_map(|line| reader.answer(line.as_bytes()).expect("the published Rust and document 01 agree")).collect()
+    script.lines().filter_map(|line| reader.answer(line.as_bytes()).expect("the published Rust and the documents agree")).collect()
 }
 
 #[test]
-fn cases_of_document_01() {
+fn cases_of_the_documents() {
     let expected: Vec<&str> = include_str!("../cases.expected").lines().collect();
     assert_eq!(answers(include_str!("../cases.script")), expected);
 }
@@ -49,5 +49,8 @@ fn lines() {
     assert_eq!(last("readx 513"), bad);
     assert_eq!(last("readx +1"), bad);
     assert_eq!(last("root 7FF0000000000001"), Some("5".into()));
+    assert_eq!(last("closef 1 0 0 0"), Some("3".into()));
+    assert_eq!(last("closef 1 0 0"), bad);
+    assert_eq!(last("closef 1 0 0 p p p p 0"), bad);
     assert_eq!(last("point 1 0 3 7FF0000000000001 FFF0000000000000 8000000000000000"), Some("0 0 1 7ff8000000000000".into()));
 }

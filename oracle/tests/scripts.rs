@@ -1,4 +1,4 @@
-//! A generated script: the published Rust and document 01 agree throughout, and every refusal of every call is met.
+//! A generated script: the published Rust and the documents agree throughout, and every refusal of every call is met.
 
 use std::process::Command;
 
@@ -12,7 +12,7 @@ fn every_refusal_is_met() {
     let mut reader = Reader::default();
     let mut calls = 0;
     for line in made.stdout.split(|b| *b == b'\n') {
-        calls += usize::from(reader.answer(line).expect("the published Rust and document 01 agree").is_some());
+        calls += usize::from(reader.answer(line).expect("the published Rust and the documents agree").is_some());
     }
     assert_eq!(calls, 20_000);
     assert_eq!(holes(&reader.table), Vec::<String>::new());

@@ -1,5 +1,5 @@
 -- Residual kinds: plain, or a turn that carries its half-turn h. Definitions only.
-use mathlib.Core.Bool.{Bool, true}
+use mathlib.Core.Bool.{Bool, true, false}
 use mathlib.Core.List.{List, [], _∷_}
 use lib.Ieee.{Float, Format}
 use Rattle.floats.specs.Refusal.{NUMBER, PARAM, Outcome, accepted, unless}
@@ -11,6 +11,10 @@ use Rattle.angles.specs.declared.Kind.{Kind}
 
 abbrev pub plain : Kind
 plain = record { residual = Plain }
+
+abbrev pub isPlain : Residual → Bool
+isPlain Plain = true
+isPlain (Turn h) = false
 
 -- a difference as it is, or wrapped
 abbrev pub turned : Format → Residual → Float → Float

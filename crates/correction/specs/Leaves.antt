@@ -1,4 +1,4 @@
--- The innovation y, the shift of x by the gain, and the measurement kinds laid out, over a format f. Definitions only.
+-- The innovation y, the shift of x by the gain, and kinds laid out in eight places, over a format f. Definitions only.
 use Prim.Native.Nat.{ℕ, _*_}
 use mathlib.Core.List.{List, _++_}
 use lib.ListN.{getD, replicate}
@@ -26,3 +26,7 @@ shiftedOf f n m x k y = placesOf (shiftedAt f m x k y) n (zeros 8)
 -- the four measurement kinds in eight places, so that one set of steps serves states and measurements; plain past them
 abbrev pub widened : List Kind → List Kind
 widened kinds = kinds ++ replicate 4 plain
+
+-- no kinds: a difference through one of these is the difference
+abbrev pub allPlain : List Kind
+allPlain = replicate 8 plain

@@ -1,10 +1,11 @@
-// The correction: x and P from observed points and a measurement, each listed result checked in its turn.
+// The correction: x and P from observed points and a measurement, in two ways that differ in how they average; the flat one is in `flat`.
 ghost use mathlib.Core.Path.{_≡_};
 ghost use Prim.Native.Nat.{_≤_};
 ghost use lib.Ieee.{binary64};
+ghost use Rattle.matrix.specs.Results.{run};
 ghost use Rattle.sigma.specs.Predict.{moments};
 ghost use Rattle.correction.specs.Leaves.{innovationOf, shiftedOf, widened};
-ghost use Rattle.correction.specs.Correct.{given, correctOf};
+ghost use Rattle.correction.specs.Correct.{applyPlan, given, correctOf};
 use angles::Kind;
 use angles::Residual;
 use matrix::factor;
@@ -16,6 +17,8 @@ use sigma::Moments;
 use sigma::mean;
 use sigma::predict;
 use sigma::spread;
+
+pub mod flat;
 
 // y = z − z mean, through the measurement kinds.
 fn innovation(m: usize, z: &[f64; 8], mean: &[f64; 8], kinds: [Kind; 8]) -> [f64; 8]
@@ -71,7 +74,70 @@ fn widened(kinds: [Kind; 4]) -> [Kind; 8]
     ]
 }
 
-// The correction of n states by m measurements: z mean, S, x mean, the cross covariance C, the factor of S, its inverse V, the gain K = C·Vᵀ, y, x and P.
+// The steps that the two closes share, from z mean, S, x mean and the cross covariance C, as a close has made them, on: the factor of S, its inverse V, the gain K = C·Vᵀ, y, x and P. Each listed result is checked in running order, those four first.
+fn apply_correction(
+    n: usize,
+    m: usize,
+    x: &[f64; 8],
+    p: &[f64; 64],
+    z: &[f64; 8],
+    measured: [Kind; 8],
+    zm: &[f64; 8],
+    s: &[f64; 64],
+    xm: &[f64; 8],
+    c: &[f64; 64],
+) -> Moments
+    requires { ⌜ (n ≤ 8) × (m ≤ 4) ⌝ }
+    ensures { λ q. ⌜ q ≡ moments (run (applyPlan binary64 (record { n = n; m = m; x = now (x .entry); p = now (p .entry); z = now (z .entry); measured = measured; zm = now (zm .entry); s = now (s .entry); xm = now (xm .entry); c = now (c .entry) }))) ⌝ }
+{
+    let mm = m * m;
+    let nm = n * m;
+    let nn = n * n;
+    if !floats::all_finite(zm, m) {
+        return predict::refuse(9);
+    }
+    if !floats::all_finite(s, mm) {
+        return predict::refuse(9);
+    }
+    if !floats::all_finite(xm, n) {
+        return predict::refuse(9);
+    }
+    if !floats::all_finite(c, nm) {
+        return predict::refuse(9);
+    }
+    let f = factor::cholesky_decompose_lower(s, m, Pivots::OfS);
+    if f.refusal != 0 {
+        return predict::refuse(f.refusal);
+    }
+    let v = inverse::invert_l_cholesky(&f.l, m);
+    if !floats::all_finite(&v, mm) {
+        return predict::refuse(9);
+    }
+    let k = product::mult_transb(c, n, &v, m, m);
+    if !floats::all_finite(&k, nm) {
+        return predict::refuse(9);
+    }
+    let y = innovation(m, z, zm, measured);
+    if !floats::all_finite(&y, m) {
+        return predict::refuse(9);
+    }
+    let x1 = shifted(n, m, x, &k, &y);
+    if !floats::all_finite(&x1, n) {
+        return predict::refuse(9);
+    }
+    let ck = product::mult_transb(c, n, &k, n, m);
+    let p1 = sums::minus(nn, p, &ck);
+    if !floats::all_finite(&p1, nn) {
+        return predict::refuse(9);
+    }
+    Moments {
+        refusal: 0,
+        x: x1,
+        p: p1,
+    }
+}
+
+// The correction of n states by m measurements: anchored means and weighted spreads, through the kinds.
 pub fn correct_with_weights_residuals(
     n: usize,
     m: usize,
@@ -90,57 +156,13 @@ pub fn correct_with_weights_residuals(
     ensures { λ q. ⌜ q ≡ moments (correctOf binary64 (given n m (now (x .entry)) (now (p .entry)) (now (points .entry)) (now (observed .entry)) w0m (now (w .entry)) (now (z .entry)) (now (r .entry)) kinds (widened measured))) ⌝ }
 {
     let t = n + n;
-    let mm = m * m;
-    let nm = n * m;
-    let nn = n * n;
     let wide = widened(measured);
     let zm = mean::anchored_mean(observed, m, t, w0m, w, wide);
-    if !floats::all_finite(&zm, m) {
-        return predict::refuse(9);
-    }
     let dz = spread::deviations(observed, m, t, &zm, wide);
     let sz = spread::spread(&dz, m, &dz, m, w, t);
-    let s = sums::plus(mm, r, &sz);
-    if !floats::all_finite(&s, mm) {
-        return predict::refuse(9);
-    }
+    let s = sums::plus(m * m, r, &sz);
     let xm = mean::anchored_mean(points, n, t, w0m, w, kinds);
-    if !floats::all_finite(&xm, n) {
-        return predict::refuse(9);
-    }
     let dx = spread::deviations(points, n, t, &xm, kinds);
     let c = spread::spread(&dx, n, &dz, m, w, t);
-    if !floats::all_finite(&c, nm) {
-        return predict::refuse(9);
-    }
-    let f = factor::cholesky_decompose_lower(&s, m, Pivots::OfS);
-    if f.refusal != 0 {
-        return predict::refuse(f.refusal);
-    }
-    let v = inverse::invert_l_cholesky(&f.l, m);
-    if !floats::all_finite(&v, mm) {
-        return predict::refuse(9);
-    }
-    let k = product::mult_transb(&c, n, &v, m, m);
-    if !floats::all_finite(&k, nm) {
-        return predict::refuse(9);
-    }
-    let y = innovation(m, z, &zm, wide);
-    if !floats::all_finite(&y, m) {
-        return predict::refuse(9);
-    }
-    let x1 = shifted(n, m, x, &k, &y);
-    if !floats::all_finite(&x1, n) {
-        return predict::refuse(9);
-    }
-    let ck = product::mult_transb(&c, n, &k, n, m);
-    let p1 = sums::minus(nn, p, &ck);
-    if !floats::all_finite(&p1, nn) {
-        return predict::refuse(9);
-    }
-    Moments {
-        refusal: 0,
-        x: x1,
-        p: p1,
-    }
+    apply_correction(n, m, x, p, z, wide, &zm, &s, &xm, &c)
 }

@@ -9,7 +9,7 @@ use Rattle.matrix.specs.Results.{Result, refusalOf, results, product, planned}
 use Rattle.matrix.specs.Factor.{leftOf, rowsFrom, columnOf, columnsFrom, factorOf}
 use Rattle.matrix.proofs.Results.{results-then}
 use Rattle.sigma.specs.Draw.{drawPlan}
-use Rattle.correction.specs.Correct.{Given, correctPlan}
+use Rattle.correction.specs.Correct.{Head, applyPlan}
 use Rattle.demands.specs.Rows.{FirstFails, now, later, ByStep}
 use Rattle.demands.specs.Sound.{Each, end, and}
 
@@ -54,5 +54,5 @@ module _ (f : Format) where
   pub draw-own : (n : ℕ) (x p : List Float) (scale : Float) → StepsOwn (planned (drawPlan f n x p scale))
   draw-own n x p scale = own-append (results (factorOf f PIVOT p n)) _ (factor-own PIVOT tt p n) (and tt (and tt end))
 
-  pub correct-own : (g : Given) → StepsOwn (planned (correctPlan f g))
-  correct-own g = and tt (and tt (and tt (and tt (own-append (results (factorOf f INNOV _ (g .m))) _ (factor-own INNOV tt _ (g .m)) (and tt (and tt (and tt (and tt (and tt end)))))))))
+  pub correct-own : (h : Head) → StepsOwn (planned (applyPlan f h))
+  correct-own h = and tt (and tt (and tt (and tt (own-append (results (factorOf f INNOV (h .s) (h .m))) _ (factor-own INNOV tt (h .s) (h .m)) (and tt (and tt (and tt (and tt (and tt end)))))))))

@@ -72,6 +72,8 @@ use Rattle.sigma.proofs.predict.reconstruct_prediction.Kinds as reconstruct-pre
 use Rattle.sigma.proofs.predict.reconstruct_prediction.Reads as reconstruct-prediction
 use Rattle.correction.proofs.correct_with_weights_residuals.Kinds as correct-with-weights-residuals-of
 use Rattle.correction.proofs.correct_with_weights_residuals.Reads as correct-with-weights-residuals
+use Rattle.correction.proofs.flat.correct_nonlinear.Kinds as correct-nonlinear-of
+use Rattle.correction.proofs.flat.correct_nonlinear.Reads as correct-nonlinear
 use Rattle.filter.proofs.Filter.new.Kinds as new-of
 use Rattle.filter.proofs.Filter.new.Reads as new
 use Rattle.filter.proofs.Filter.set_x.Kinds as set-x-of
@@ -88,6 +90,8 @@ use Rattle.filter.proofs.Filter.close_prediction.Kinds as close-prediction-of
 use Rattle.filter.proofs.Filter.close_prediction.Reads as close-prediction
 use Rattle.filter.proofs.Filter.close_correction.Kinds as close-correction-of
 use Rattle.filter.proofs.Filter.close_correction.Reads as close-correction
+use Rattle.filter.proofs.Filter.close_correction_flat.Kinds as close-correction-flat-of
+use Rattle.filter.proofs.Filter.close_correction_flat.Reads as close-correction-flat
 use Rattle.filter.proofs.Filter.abandon.Kinds as abandon-of
 use Rattle.filter.proofs.Filter.abandon.Reads as abandon
 use Rattle.filter.proofs.Filter.read_params.Kinds as read-params-of
@@ -262,6 +266,9 @@ reconstruct-prediction-one κs a z z′ w w′ p q = (by p q, refl)
 pub correct-with-weights-residuals-one : OneAnswer correct-with-weights-residuals-of.ps correct-with-weights-residuals-of.r correct-with-weights-residuals.Learnt
 correct-with-weights-residuals-one κs a z z′ w w′ p q = (by p q, refl)
 
+pub correct-nonlinear-one : OneAnswer correct-nonlinear-of.ps correct-nonlinear-of.r correct-nonlinear.Learnt
+correct-nonlinear-one κs a z z′ w w′ p q = (by p q, refl)
+
 pub new-one : OneAnswer new-of.ps new-of.r new.Learnt
 new-one κs a z z′ w w′ p q = (by p q, refl)
 
@@ -285,6 +292,9 @@ close-prediction-one κs a z z′ w w′ p q = (by p q, refl)
 
 pub close-correction-one : OneAnswer close-correction-of.ps close-correction-of.r close-correction.Learnt
 close-correction-one κs a z z′ w w′ p q = (by p q, refl)
+
+pub close-correction-flat-one : OneAnswer close-correction-flat-of.ps close-correction-flat-of.r close-correction-flat.Learnt
+close-correction-flat-one κs a z z′ w w′ p q = (by p q, refl)
 
 pub abandon-one : OneAnswer abandon-of.ps abandon-of.r abandon.Learnt
 abandon-one κs a z z′ w w′ p q = (by p q, refl)

@@ -1,6 +1,6 @@
--- Demand 1: a call ends with a result or one of the nine refusals, each exactly when its row says; what is refused changes nothing; every number handed out is finite. Over every format. Assumes nothing.
+-- Demand 1: a call ends with a result or one of the refusals, each exactly when its row says; what is refused changes nothing; every number handed out is finite. Over every format. Assumes nothing.
 use Prim.Native.Nat.{ℕ, _≤_}
-use mathlib.Core.Path.{_≡_}
+use mathlib.Core.Path.{_≡_, refl}
 use mathlib.Core.Bool.{true, false, cond}
 use mathlib.Core.List.{List, []}
 use mathlib.Core.Logic.{_↔_, _≢_, _⊎_}
@@ -19,17 +19,17 @@ use Rattle.sigma.specs.Weights.{scaleOf, w0mOf}
 use Rattle.sigma.specs.Draw.{pointNumbers}
 use Rattle.filter.specs.declared.Filter.{Filter}
 use Rattle.filter.specs.Filters.{seen}
-use Rattle.filter.specs.Calls.{Call, setting, closing, open-prediction, open-correction, close-prediction, close-correction, fits, asks, plan}
+use Rattle.filter.specs.Calls.{Call, setting, closing, open-prediction, open-correction, close-prediction, close-correction, close-correction-flat, fits, asks, plan}
 use Rattle.filter.specs.Steps.{step, paramsRead, staleRead}
 use Rattle.filter.specs.New.{empty, newAsks, newAnswer}
 use Rattle.filter.specs.Point.{pointAsks, pointRefusal, pointOf}
 use Rattle.demands.specs.Rows.{Some, NotFinite, NotAbove, Below, OutOfRange, UnfitTurn, FirstFails, Cause, Applies, Due, ByStep, Neither}
-use Rattle.demands.specs.Listed.{listedAtOpen, listedAtPrediction, listedAtCorrection, measured}
+use Rattle.demands.specs.Listed.{listedAtOpen, listedAtPrediction, listedAtCorrection, measured, measuredFlat}
 use Rattle.demands.specs.Runs.{told}
 use Rattle.demands.specs.Sound.{Sound, Tidy, Reached, Yielded, handedOut, Each}
 use Rattle.demands.proofs.Exactly.{exactly, taken-exactly, new-exactly, new-taken, point-exactly, point-taken, wrap-exactly, wrap-taken, wrap-refused, root-exactly, kind-exactly, kind-taken, ends-so, refused-unwritten, refused-values, new-refused, point-refused}
-use Rattle.demands.proofs.Listed.{open-prediction-lists, open-correction-lists, close-prediction-lists, close-correction-lists}
-use Rattle.demands.proofs.Table.{steps-give, stage-exactly, states-first}
+use Rattle.demands.proofs.Listed.{open-prediction-lists, open-correction-lists, close-prediction-lists, close-correction-lists, close-correction-flat-lists}
+use Rattle.demands.proofs.Table.{steps-give, stage-exactly, states-first, never-param}
 use Rattle.demands.proofs.Sound.{sound, tidy, all-handed-finite}
 use Rattle.demands.proofs.Opening.{opening-prediction, opening-correction}
 use Rattle.demands.proofs.Unread.{kinds-unread}
@@ -37,7 +37,7 @@ use Rattle.demands.proofs.Unread.{kinds-unread}
 module _ (f : Format) where
   -- ---- a result or a refusal, exactly when
 
-  -- Any call on any bits ends with 0 or with one of the nine numbers;
+  -- Any call on any bits ends with 0 or with one of the numbers of the table, 1 to 10;
   pub a-result-or-a-refusal : (s : Filter) (c : Call) → (step f s c .reply .refusal ≡ 0) ⊎ ((r : Refusal) × (step f s c .reply .refusal ≡ number r))
   a-result-or-a-refusal = ends-so f
 
@@ -112,6 +112,14 @@ module _ (f : Format) where
   pub listed-at-correction : (s : Filter) (m : ℕ) (z r : List Float) (kinds : List Kind) (observed : List Float)
       → planned (plan f s (closing (close-correction m z r kinds observed))) ≡ listedAtCorrection f (measured f s m z r kinds observed)
   listed-at-correction = close-correction-lists f
+
+  -- The flat close: the same results, of its own means, S and cross covariance.
+  pub listed-at-flat-correction : (s : Filter) (m : ℕ) (z r observed : List Float) → planned (plan f s (closing (close-correction-flat m z r observed))) ≡ listedAtCorrection f (measuredFlat f s m z r observed)
+  listed-at-flat-correction = close-correction-flat-lists f
+
+  -- It never gives 6: nothing that it is lent has to pass it.
+  pub flat-correction-never : (s : Filter) (m : ℕ) (z r observed : List Float) → step f s (closing (close-correction-flat m z r observed)) .reply .refusal ≢ number PARAM
+  flat-correction-never s m z r observed = never-param f s (closing (close-correction-flat m z r observed)) refl
 
   -- They give 5, 7, 8 and 9 alone;
   pub steps-give-their-own : (s : Filter) (c : Call) (r : Refusal) → FirstFails r (planned (plan f (seen s) c)) → ByStep r

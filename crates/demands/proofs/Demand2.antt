@@ -1,13 +1,14 @@
 -- Demand 2: every number is worked out by document 01's steps, bit for bit. The contracts say it: each names one definition, and says that all of the answer is it.
 -- Here is a line for each step, which function's contract names which definition; under it, where the definition is not the document's own text, a law that it comes to that. Over every format. Assumes nothing.
 use Prim.Native.Nat.{ℕ, _+_, _-_, _*_, _<_, _≤_}
-use mathlib.Core.Path.{_≡_, sym, ap, _∙_}
+use mathlib.Core.Path.{_≡_, refl, sym, ap, _∙_}
 use mathlib.Core.List.{List}
 use native.Mathlib.Nat.{mul-le-mul}
 use native.Mathlib.Omega.{arith}
 use lib.Dec.{T}
+use lib.IntN.{pos}
 use lib.ListN.{getD}
-use lib.Ieee.{Float, nan, Format, binary64, fits, add, sub, mul, div}
+use lib.Ieee.{Float, nan, Format, binary64, fits, add, sub, mul, div, ofInt}
 use lib.Ieee.Scale.{finite}
 use Rattle.floats.specs.Refusal.{Refusal, PIVOT, accepted}
 use Rattle.floats.specs.Numbers.{plusZero}
@@ -38,8 +39,10 @@ use Rattle.sigma.specs.Mean.{meanOf}
 use Rattle.sigma.specs.Spread.{deviationsOf, spreadOf}
 use Rattle.sigma.specs.Predict.{Moment, predictPlan}
 use Rattle.sigma.proofs.Entries.{weight-first, weight-other, point-first, point-plus, point-minus, drawn-filled, mean-placed, deviations-filled, spread-filled}
-use Rattle.correction.specs.Leaves.{innovationAt, innovationOf, shiftedAt, shiftedOf}
-use Rattle.correction.specs.Correct.{Given, correctPlan}
+use Rattle.correction.specs.Leaves.{innovationAt, innovationOf, shiftedAt, shiftedOf, allPlain}
+use Rattle.correction.specs.Correct.{Head, applyPlan, Given, weightedHead, correctPlan}
+use Rattle.correction.specs.Flat.{flatMeanOf, flatSpreadOf, flatHead, flatPlan}
+use Rattle.correction.proofs.Entries.{flat-mean-placed, flat-spread-filled, through-plain}
 use Rattle.demands.specs.Listed.{state, covariance}
 use Rattle.demands.proofs.Passed.{ran-made}
 
@@ -183,8 +186,34 @@ module _ (f : Format) where
   pub minus-at : (n : ℕ) (p t : List Float) → n ≤ 8 → (i : ℕ) → i < n * n → at (minusOf f (n * n) p t) i ≡ sub f (at p i) (at t i)
   minus-at n p t h = minus-placed f (n * n) p t (mul-le-mul h h) .place
 
-  -- `correct_with_weights_residuals` (crate correction) is `correctPlan`, run: accepted, it has made the x and P at the end of the chain that specs/Listed.antt writes out
-  pub correction-makes : (g : Given) (m : Moment) → run (correctPlan f g) ≡ accepted m → m ≡ record { x = state f g; p = covariance f g }
-  correction-makes g m e = ran-made (correctPlan f g) m e
+  -- `apply_correction` (crate correction), which both closes end in, is `applyPlan`, run: accepted, it has made the x and P at the end of the chain that specs/Listed.antt writes out
+  pub correction-makes : (h : Head) (m : Moment) → run (applyPlan f h) ≡ accepted m → m ≡ record { x = state f h; p = covariance f h }
+  correction-makes h m e = ran-made (applyPlan f h) m e
+
+  -- `correct_with_weights_residuals` is `correctPlan`: that of `weightedHead`, whose z mean, S, x mean and cross covariance are the lines above
+  pub weighted-is : (g : Given) → correctPlan f g ≡ applyPlan f (weightedHead f g)
+  weighted-is g = refl
+
+  -- ---- The flat close (document 02, A1): `correct_nonlinear` (crate correction) is `flatPlan`: that of `flatHead`, made by `flat_mean`, `deviations` and `flat_spread`
+
+  pub flat-is : (n m : ℕ) (x p points observed z r : List Float) → flatPlan f n m x p points observed z r ≡ applyPlan f (flatHead f n m x p points observed z r)
+  flat-is n m x p points observed z r = refl
+
+  -- means: per entry the sum from +0 over all 2n+1 points, divided by 2n+1; t is 2n
+  pub flat-mean-at : (p : List Float) (d t : ℕ) → d ≤ 8 → (i : ℕ) → i < d → at (flatMeanOf f p d t) i ≡ div f (totalOf (add f) plusZero (λ (k : ℕ). at p (k * d + i)) (t + 1)) (ofInt f (pos (t + 1)))
+  flat-mean-at p d t h = flat-mean-placed f p d t h .place
+
+  -- differences from them: no kinds
+  pub flat-deviation-at : (p : List Float) (d t : ℕ) (mean : List Float) → t < 17 → d ≤ 8 → (k i : ℕ) → k < t + 1 → i < d → at (deviationsOf f p d t mean allPlain) (k * d + i) ≡ sub f (at p (k * d + i)) (at mean i)
+  flat-deviation-at p d t mean g h k i l j = deviation-at p d t mean allPlain g h k i l j ∙ through-plain f i _ (omega arith)
+
+  -- S and C: per entry each product of two differences, summed from +0, the sum divided by 2n+1; then R + S, by `plus-at`
+  pub flat-spread-at : (a : List Float) (da : ℕ) (b : List Float) (db t : ℕ) → da ≤ 8 → db ≤ 8 → (i j : ℕ) → i < da → j < db
+      → at (flatSpreadOf f a da b db t) (i * db + j) ≡ div f (totalOf (add f) plusZero (λ (k : ℕ). mul f (at a (k * da + i)) (at b (k * db + j))) (t + 1)) (ofInt f (pos (t + 1)))
+  flat-spread-at a da b db t g h = flat-spread-filled f a da b db t g h .cell
+
+  -- y = z − z mean
+  pub flat-innovation-at : (m : ℕ) (z mean : List Float) → m ≤ 8 → (j : ℕ) → j < m → at (innovationOf f m z mean allPlain) j ≡ sub f (at z j) (at mean j)
+  flat-innovation-at m z mean h j g = innovation-at m z mean allPlain h j g ∙ through-plain f j _ (omega arith)
 
 -- ---- the calls: every method of `Filter` (crate filter) is `step`, by the table in filter/specs/Calls.antt: which of these plans a call runs, on what, and what it installs

@@ -8,7 +8,7 @@ use mathlib.Core.Logic.{_↔_, _≢_, _⊎_, inl, inr, ⊎-elim}
 use native.Mathlib.Omega.{arith}
 use lib.Ieee.{Float, Format, add}
 use lib.Ieee.Scale.{finite}
-use Rattle.floats.specs.Refusal.{Refusal, SIZE, SHORT, STAGE, STALE, NUMBER, PARAM, PIVOT, INNOV, RANGE, number, Outcome, refused, accepted, refusal, or, unless}
+use Rattle.floats.specs.Refusal.{Refusal, SIZE, SHORT, STAGE, STALE, NUMBER, PARAM, PIVOT, INNOV, RANGE, KIND, number, Outcome, refused, accepted, refusal, or, unless}
 use Rattle.floats.specs.Numbers.{plusZero, allFinite}
 use Rattle.floats.specs.Fronts.{over}
 use Rattle.root.specs.Definition.{rootOf, rooted}
@@ -22,15 +22,15 @@ use Rattle.floats.proofs.Refusals.{number-above}
 use Rattle.matrix.proofs.Results.{plan-refused}
 use Rattle.sigma.specs.declared.Params.{Params}
 use Rattle.filter.specs.declared.Filter.{Filter}
-use Rattle.filter.specs.Asked.{Asks, within, long, fit, every, guarded}
+use Rattle.filter.specs.Asked.{Asks, within, long, straight, fit, every, guarded}
 use Rattle.filter.specs.Filters.{seen}
 use Rattle.filter.specs.Calls.{Call, asks, Done, plan}
 use Rattle.filter.specs.Steps.{outcome, stepped, step, paramsOf, paramsRead, staleRead}
 use Rattle.filter.specs.New.{empty, newAsks, newOf, newAnswer}
 use Rattle.filter.specs.Point.{pointAsks, pointAt, pointRefusal, pointOf}
-use Rattle.demands.specs.Rows.{Some, here, there, NotFinite, NotAbove, Below, OutOfRange, Shorter, UnfitTurn, Unfit, FirstFails, Cause, stage, size, short, stale, met, gives, Applies, place, Due}
+use Rattle.demands.specs.Rows.{Some, here, there, NotFinite, NotAbove, Below, OutOfRange, Shorter, IsTurn, UnfitTurn, Unfit, FirstFails, Cause, stage, size, short, stale, met, gives, Applies, place, Due}
 use Rattle.demands.specs.Rows as Row
-use Rattle.demands.proofs.Rows.{Means, itself, turned, reworded, none, parted, some, ranged, lent-long, all-finite, fitting, half-turn, turn, well, rooted-means}
+use Rattle.demands.proofs.Rows.{Means, itself, turned, reworded, none, parted, some, ranged, lent-long, all-finite, is-turn, fitting, half-turn, turn, well, rooted-means}
 
 -- ---- the number gives back its refusal
 
@@ -44,7 +44,8 @@ named (suc (suc (suc (suc (suc zero))))) = NUMBER
 named (suc (suc (suc (suc (suc (suc zero)))))) = PARAM
 named (suc (suc (suc (suc (suc (suc (suc zero))))))) = PIVOT
 named (suc (suc (suc (suc (suc (suc (suc (suc zero)))))))) = INNOV
-named (suc (suc (suc (suc (suc (suc (suc (suc (suc n))))))))) = RANGE
+named (suc (suc (suc (suc (suc (suc (suc (suc (suc zero))))))))) = RANGE
+named (suc (suc (suc (suc (suc (suc (suc (suc (suc (suc n)))))))))) = KIND
 
 named-number : (r : Refusal) → named (number r) ≡ r
 unfolding named
@@ -57,6 +58,7 @@ named-number PARAM = refl
 named-number PIVOT = refl
 named-number INNOV = refl
 named-number RANGE = refl
+named-number KIND = refl
 
 pub number-same : {q r : Refusal} → number q ≡ number r → q ≡ r
 number-same {q} {r} e = sym (named-number q) ∙ ap named e ∙ named-number r
@@ -118,34 +120,37 @@ nth (suc zero) = size
 nth (suc (suc zero)) = short
 nth (suc (suc (suc zero))) = stale
 nth (suc (suc (suc (suc zero)))) = Row.number
-nth (suc (suc (suc (suc (suc n))))) = Row.param
+nth (suc (suc (suc (suc (suc zero))))) = Row.kind
+nth (suc (suc (suc (suc (suc (suc n)))))) = Row.param
 
-nth-place : (c : Cause) → place c < 6 → nth (place c) ≡ c
+nth-place : (c : Cause) → place c < 7 → nth (place c) ≡ c
 unfolding nth
 nth-place stage h = refl
 nth-place size h = refl
 nth-place short h = refl
 nth-place stale h = refl
 nth-place Row.number h = refl
+nth-place Row.kind h = refl
 nth-place Row.param h = refl
 nth-place (met r) h = absurd (omega arith)
 
-same-place : (c d : Cause) → place d < 6 → place c ≡ place d → c ≡ d
+same-place : (c d : Cause) → place d < 7 → place c ≡ place d → c ≡ d
 same-place c d h e = sym (nth-place c (omega arith)) ∙ ap nth e ∙ nth-place d h
 
 module _ (f : Format) (a : Asks) (vs : List Result) where
-  late : (c : Cause) → 6 ≤ place c → Applies f a vs c → FirstFails (gives c) vs
+  late : (c : Cause) → 7 ≤ place c → Applies f a vs c → FirstFails (gives c) vs
   late stage h w = absurd (omega arith)
   late size h w = absurd (omega arith)
   late short h w = absurd (omega arith)
   late stale h w = absurd (omega arith)
   late Row.number h w = absurd (omega arith)
+  late Row.kind h w = absurd (omega arith)
   late Row.param h w = absurd (omega arith)
   late (met r) h w = w
 
   -- two rows that apply at one place give one number
   one-row : (c d : Cause) → place c ≡ place d → Applies f a vs c → Applies f a vs d → gives c ≡ gives d
-  one-row c d e x y = ⊎-elim (λ l. ap gives (same-place c d l e)) (λ g. one-first (late c (omega arith) x) (late d g y)) (split (place d) 6)
+  one-row c d e x y = ⊎-elim (λ l. ap gives (same-place c d l e)) (λ g. one-first (late c (omega arith) x) (late d g y)) (split (place d) 7)
 
   -- a right outcome for the rows from place k on
   abbrev Right : {A : Type 0} → ℕ → Outcome A → Type 0
@@ -154,14 +159,14 @@ module _ (f : Format) (a : Asks) (vs : List Result) where
 
   module _ {A : Type 0} where
     -- a test in front
-    layer : (t : Bool) (c : Cause) (o : Outcome A) → place c < 6 → Means t (Applies f a vs c) → Right (suc (place c)) o → Right (place c) (unless t (gives c) o)
+    layer : (t : Bool) (c : Cause) (o : Outcome A) → place c < 7 → Means t (Applies f a vs c) → Right (suc (place c)) o → Right (place c) (unless t (gives c) o)
     layer false c o h m i = (c, refl, omega arith, m .fails refl, λ d g l x. absurd (omega arith))
     layer true c (refused r) h m i =
         (i .0, i .1, omega (arith, i .2), i .3, λ d g l x. ⊎-elim (λ u. absurd (omega arith)) (λ e. ⊎-elim (λ s. m .passes refl (subst (Applies f a vs) (same-place d c h s) x)) (λ u. i .4 d (omega arith) l x) e) (cmp (place d) (place c)))
     layer true c (accepted y) h m i =
         λ d g x. ⊎-elim (λ u. absurd (omega arith)) (λ e. ⊎-elim (λ s. m .passes refl (subst (Applies f a vs) (same-place d c h s) x)) (λ u. i d (omega arith) x) e) (cmp (place d) (place c))
 
-    steps-right : (o : Outcome A) → Ends vs o → Right 6 o
+    steps-right : (o : Outcome A) → Ends vs o → Right 7 o
     steps-right (refused r) i = (met r, refl, omega arith, i, λ d g l x. absurd (omega arith))
     steps-right (accepted y) i = λ d g x. i (gives d) (late d g x)
 
@@ -173,8 +178,9 @@ module _ (f : Format) (a : Asks) (vs : List Result) where
         (layer (every long (a .lent)) short _ (omega arith) (some long Shorter lent-long (a .lent))
         (layer (not (a .stale)) stale _ (omega arith) (turned (a .stale))
         (layer (allFinite (a .inputs)) Row.number _ (omega arith) (all-finite (a .inputs))
+        (layer (every straight (a .plain)) Row.kind _ (omega arith) (some straight IsTurn is-turn (a .plain))
         (layer (every (fit f) (a .params)) Row.param _ (omega arith) (some (fit f) (Unfit f) (fitting f) (a .params))
-        (steps-right o i))))))
+        (steps-right o i)))))))
 
     due : (o : Outcome A) (r : Refusal) → Right 0 o → refusal o ≡ number r → Due f a vs r
     due (refused q) r i e = record { cause = i .0; gives-it = i .1 ∙ number-same e; applies = i .3; no-earlier = λ c l x. i .4 c (omega arith) l x }
@@ -300,7 +306,7 @@ module _ (f : Format) where
     pub kind-taken : (refusal (kindOf f k) ≡ 0) ↔ ((Some NotFinite (numbersIn (k .residual)) → ⊥) × (UnfitTurn f (k .residual) → ⊥))
     kind-taken = two-taken k (allFinite (numbersIn (k .residual))) (passes f (k .residual)) (all-finite (numbersIn (k .residual))) (turn f (k .residual))
 
--- ---- a result or one of the nine; and what is refused changes nothing and hands out nothing
+-- ---- a result or one of the refusals; and what is refused changes nothing and hands out nothing
 
 one-of : {A : Type 0} (o : Outcome A) → (refusal o ≡ 0) ⊎ ((r : Refusal) × (refusal o ≡ number r))
 one-of (refused r) = inr (r, refl)

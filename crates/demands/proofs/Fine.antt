@@ -14,22 +14,23 @@ use Rattle.floats.specs.Numbers.{zeros, allFinite, aboveZero}
 use Rattle.floats.specs.Fronts.{front}
 use Rattle.floats.proofs.Finite.{all-zeros}
 use Rattle.angles.specs.declared.Kind.{Kind}
+use Rattle.matrix.specs.Results.{mapped}
 use Rattle.sigma.specs.declared.Params.{Params}
 use Rattle.sigma.specs.Weights.{scaleOf, w0mOf, w0cOf, wiOf, weightAt, weightsOf, weightsPass}
 use Rattle.sigma.specs.Draw.{pointNumbers, pointAt, drawPlan}
 use Rattle.sigma.specs.Predict.{Moment, predictPlan}
-use Rattle.correction.specs.Correct.{Given, correctPlan}
+use Rattle.correction.specs.Correct.{Head, applyPlan}
 use Rattle.filter.specs.declared.Filter.{Filter}
 use Rattle.filter.specs.declared.Stage.{Stage}
 use Rattle.filter.specs.declared.Stage.the-variants.{Shut, Predicting, Correcting}
 use Rattle.filter.specs.declared.Weighted.{Weighted}
 use Rattle.filter.specs.Asked.{fit, by-params, by-kind, inRange, every}
 use Rattle.filter.specs.Filters.{isShut, isPredicting, isCorrecting, seen, Setting, x-set, p-set, q-set, params-set, kinds-set, opened-prediction, opened-correction, Closing, Change, sets, closes, abandons, reads}
-use Rattle.filter.specs.Calls.{set-x, set-p, set-q, set-params, set-kind, open-prediction, open-correction, close-prediction, close-correction, read-x, read-p, read-q, read-points, read-params, read-stale, Call, setting, closing, abandon, reading, inKinds, asKinds, asks, Done, opened, closed, draws, plan}
-use Rattle.demands.specs.Listed.{measured}
+use Rattle.filter.specs.Calls.{set-x, set-p, set-q, set-params, set-kind, open-prediction, open-correction, close-prediction, close-correction, close-correction-flat, read-x, read-p, read-q, read-points, read-params, read-stale, Call, setting, closing, abandon, reading, inKinds, asKinds, asks, Done, opened, closed, draws, plan}
+use Rattle.demands.specs.Listed.{measured, measuredFlat}
 use Rattle.demands.specs.Sound.{Filled, Sound}
 use Rattle.demands.proofs.Passed.{both, Passed, Ran, ran-finish, ran-after, ran-listed, ran-either, ran-mapped}
-use Rattle.demands.proofs.Listed.{drawing, predicting, correcting}
+use Rattle.demands.proofs.Listed.{drawing, predicting}
 use Rattle.demands.proofs.Arrays.{all-front, all-places, filled-places, filled-rows, filled-front, kinds-finite, kinds-fit}
 
 -- ---- what a change installs is right for the filter
@@ -122,8 +123,8 @@ module _ (f : Format) where
       ran-listed _ (n * n) _ _ (λ u.
       ran-finish _ _ (filled-places _ n 8 t, filled-places _ (n * n) 64 u)))
 
-  correct-filled : (g : Given) → Ran (correctPlan f g) (λ (m : Moment). Filled (g .n) 8 (m .x) × Filled (g .n * g .n) 64 (m .p))
-  correct-filled g =
+  correct-filled : (h : Head) → Ran (applyPlan f h) (λ (m : Moment). Filled (h .n) 8 (m .x) × Filled (h .n * h .n) 64 (m .p))
+  correct-filled h =
       ran-after _ _ _ (λ zm e0.
       ran-after _ _ _ (λ s e1.
       ran-after _ _ _ (λ xm e2.
@@ -132,9 +133,9 @@ module _ (f : Format) where
       ran-after _ _ _ (λ v e5.
       ran-after _ _ _ (λ k e6.
       ran-after _ _ _ (λ y e7.
-      ran-listed _ (g .n) _ _ (λ t.
-      ran-listed _ (g .n * g .n) _ _ (λ u.
-      ran-finish _ _ (filled-places _ (g .n) 8 t, filled-places _ (g .n * g .n) 64 u)))))))))))
+      ran-listed _ (h .n) _ _ (λ t.
+      ran-listed _ (h .n * h .n) _ _ (λ u.
+      ran-finish _ _ (filled-places _ (h .n) 8 t, filled-places _ (h .n * h .n) 64 u)))))))))))
 
 -- ---- each call, once taken
 
@@ -149,6 +150,14 @@ module _ (f : Format) (s : Filter) (o : Sound f s) where
 
   open-weighted : isShut (s .stage) ≡ false → (points : List Float) → Filled (pointNumbers (s .n)) 136 points → Laid (s .n) (record { weights = seen s .«drawn_weights»; points = points })
   open-weighted h points a = rw h (record { weights = o .drawn-weights h; points = a })
+
+  -- a close of a correction, of either sort
+  corrected-fine : isShut (s .stage) ≡ false → (h : Head) → h .n ≡ s .n → Ran (mapped (closed (seen s .«drawn_weights») (seen s .«drawn_points») true) (applyPlan f h)) (λ (d : Done). FineDone f (s .n) d)
+  unfolding allFinite
+  corrected-fine t h e =
+      ran-mapped _ (closed (seen s .«drawn_weights») (seen s .«drawn_points») true) (applyPlan f h) (λ q r.
+      let a : Filled (s .n) 8 (q .x) × Filled (s .n * s .n) 64 (q .p) = rw (← e) (correct-filled f h q r) in
+      record { change = (a .0, a .1, open-weighted t (seen s .«drawn_points») (rw t (o .drawn-points t))); given = refl })
 
   pub fine : (c : Call) → Passed f (asks (seen s) c) → Ran (plan f (seen s) c) (λ (d : Done). FineDone f (s .n) d)
   unfolding allFinite
@@ -175,11 +184,8 @@ module _ (f : Format) (s : Filter) (o : Sound f s) where
       let a = predict-filled f (s .n) points (w0mOf f (s .n) (s .params)) (seen s .«drawn_weights») (s .kinds) (s .q) m e in
       let b = filled-front (pointNumbers (s .n)) 136 v (leb-true _ _ (h .lent .0)) (points-room (s .n) (in-range 1 8 (s .n) (h .sizes .0) .1)) (h .inputs) in
       record { change = (a .0, a .1, open-weighted (predicting-open (s .stage) (h .fits)) points b); given = refl })
-  fine (closing (close-correction m z r kinds observed)) h =
-      let t = correcting-open (s .stage) (h .fits) in
-      ran-mapped _ (closed (seen s .«drawn_weights») (seen s .«drawn_points») true) (correcting f (seen s) m z r kinds observed) (λ q e.
-      let a = correct-filled f (measured f (seen s) m z r kinds observed) q e in
-      record { change = (a .0, a .1, open-weighted t (seen s .«drawn_points») (rw t (o .drawn-points t))); given = refl })
+  fine (closing (close-correction m z r kinds observed)) h = corrected-fine (correcting-open (s .stage) (h .fits)) (measured f (seen s) m z r kinds observed) refl
+  fine (closing (close-correction-flat m z r observed)) h = corrected-fine (correcting-open (s .stage) (h .fits)) (measuredFlat f (seen s) m z r observed) refl
   fine abandon h = ran-finish _ _ (record { change = tt; given = refl })
   fine (reading (read-x b)) h = ran-finish _ _ (record { change = tt; given = o .x .bounded })
   fine (reading (read-p b)) h = ran-finish _ _ (record { change = tt; given = o .p .bounded })

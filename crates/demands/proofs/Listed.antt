@@ -12,22 +12,19 @@ use Rattle.matrix.proofs.Mapped.{planned-mapped}
 use Rattle.sigma.specs.Weights.{scaleOf, w0mOf, weightsOf}
 use Rattle.sigma.specs.Draw.{pointNumbers, drawPlan}
 use Rattle.sigma.specs.Predict.{Moment, predictPlan}
-use Rattle.correction.specs.Correct.{correctPlan}
+use Rattle.correction.specs.Correct.{applyPlan}
 use Rattle.filter.specs.declared.Filter.{Filter}
 use Rattle.filter.specs.Filters.{opened-prediction, opened-correction}
-use Rattle.filter.specs.Calls.{setting, closing, open-prediction, open-correction, close-prediction, close-correction, opened, closed, draws, plan}
-use Rattle.demands.specs.Listed.{listedAtOpen, listedAtPrediction, listedAtCorrection, measured}
+use Rattle.filter.specs.Calls.{setting, closing, open-prediction, open-correction, close-prediction, close-correction, close-correction-flat, opened, closed, draws, plan}
+use Rattle.demands.specs.Listed.{listedAtOpen, listedAtPrediction, listedAtCorrection, measured, measuredFlat}
 
--- the steps of an opening that draws, and of the two closes
+-- the steps of an opening that draws, and of a close prediction; those of the closes of a correction are `applyPlan`
 module _ (f : Format) (s : Filter) where
   abbrev pub drawing : Plan (List Float)
   drawing = drawPlan f (s .n) (s .x) (s .p) (scaleOf f (s .n) (s .params))
 
   abbrev pub predicting : List Float → Plan Moment
   predicting v = predictPlan f (s .n) (front (pointNumbers (s .n)) v (zeros 136)) (w0mOf f (s .n) (s .params)) (s .«drawn_weights») (s .kinds) (s .q)
-
-  abbrev pub correcting : ℕ → List Float → List Float → List Kind → List Float → Plan Moment
-  correcting m z r kinds observed = correctPlan f (measured f s m z r kinds observed)
 
 module _ (f : Format) (s : Filter) where
   pub open-prediction-lists : (b : List Float) → planned (plan f s (setting (open-prediction b))) ≡ listedAtOpen f (s .n) (s .x) (s .p) (scaleOf f (s .n) (s .params))
@@ -47,4 +44,7 @@ module _ (f : Format) (s : Filter) where
 
   pub close-correction-lists : (m : ℕ) (z r : List Float) (kinds : List Kind) (observed : List Float)
       → planned (plan f s (closing (close-correction m z r kinds observed))) ≡ listedAtCorrection f (measured f s m z r kinds observed)
-  close-correction-lists m z r kinds observed = planned-mapped (closed (s .«drawn_weights») (s .«drawn_points») true) (correcting f s m z r kinds observed)
+  close-correction-lists m z r kinds observed = planned-mapped (closed (s .«drawn_weights») (s .«drawn_points») true) (applyPlan f (measured f s m z r kinds observed))
+
+  pub close-correction-flat-lists : (m : ℕ) (z r observed : List Float) → planned (plan f s (closing (close-correction-flat m z r observed))) ≡ listedAtCorrection f (measuredFlat f s m z r observed)
+  close-correction-flat-lists m z r observed = planned-mapped (closed (s .«drawn_weights») (s .«drawn_points») true) (applyPlan f (measuredFlat f s m z r observed))

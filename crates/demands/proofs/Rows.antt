@@ -1,6 +1,6 @@
 -- Each row of the table of refusals, and each listed result, is a test: it fails just where the row's words hold. Assumes nothing.
 use Prim.Native.Nat.{ℕ, zero, suc, _+_, _*_, _<_, _≤_}
-use mathlib.Core.Path.{_≡_, refl}
+use mathlib.Core.Path.{_≡_, refl, ap}
 use mathlib.Core.Bool.{Bool, true, false, not, _&&_}
 use mathlib.Core.List.{List, [], _∷_}
 use mathlib.Core.Logic.{_⊎_, inl, inr, ⊎-elim}
@@ -15,13 +15,14 @@ use lib.Ieee.Fits.{up-pos}
 use Rattle.floats.specs.Numbers.{plusZero, allFinite, aboveZero}
 use Rattle.root.specs.Definition.{rooted}
 use Rattle.angles.specs.Wrap.{halfTurn}
-use Rattle.angles.specs.Kinds.{passes}
+use Rattle.angles.specs.Kinds.{isPlain, passes}
+use Rattle.angles.specs.declared.Kind.{Kind}
 use Rattle.angles.specs.declared.Residual.{Residual}
 use Rattle.angles.specs.declared.Residual.the-variants.{Plain, Turn}
 use Rattle.matrix.specs.Results.{Result, numbers, pivot, rooting, good}
 use Rattle.sigma.specs.Weights.{scaleOf, w0mOf, w0cOf, wiOf, weightsPass}
-use Rattle.filter.specs.Asked.{Size, Lent, Param, by-params, by-kind, inRange, within, long, fit, every}
-use Rattle.demands.specs.Rows.{Some, here, there, NotFinite, NotAbove, Below, OutOfRange, Shorter, UnfitTurn, Unfit, Fails}
+use Rattle.filter.specs.Asked.{Size, Lent, Param, by-params, by-kind, inRange, within, long, straight, fit, every}
+use Rattle.demands.specs.Rows.{Some, here, there, NotFinite, NotAbove, Below, OutOfRange, Shorter, IsTurn, UnfitTurn, Unfit, Fails}
 
 pub two-ways : {b : Bool} → b ≡ true → b ≡ false → ⊥
 two-ways {b} h k = let z : _≡_ {A = ℕ} 0 1 = cc in omega arith
@@ -83,6 +84,13 @@ pub all-finite : (l : List Float) → Means (allFinite l) (Some NotFinite l)
 unfolding allFinite
 all-finite [] = always none
 all-finite (x ∷ l) = reworded joined parted (either (itself (finite x)) (all-finite l))
+
+pub is-turn : (k : Kind) → Means (straight k) (IsTurn k)
+is-turn k = go (k .residual)
+  where
+    go : (r : Residual) → Means (isPlain r) ((h : Float) × (r ≡ Turn h))
+    go Plain = always (λ w. two-ways refl (ap isPlain (w .1)))
+    go (Turn h) = record { fails = λ e. (h, refl); passes = λ e w. two-ways e refl }
 
 pub is-above : (x : Float) → Means (aboveZero x) (NotFinite x ⊎ NotAbove x)
 unfolding aboveZero

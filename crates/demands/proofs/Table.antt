@@ -3,27 +3,28 @@ use Prim.Native.Nat.{ℕ, _<_}
 use mathlib.Core.Path.{_≡_, refl, sym, ap, _∙_}
 use mathlib.Core.Bool.{Bool, true, false, cond}
 use mathlib.Core.List.{List, [], _∷_}
-use mathlib.Core.Logic.{_↔_}
+use mathlib.Core.Logic.{_↔_, _≢_}
 use native.Mathlib.Omega.{arith}
 use lib.Ieee.{Format}
-use Rattle.floats.specs.Refusal.{Refusal, SIZE, STAGE, number}
+use Rattle.floats.specs.Refusal.{Refusal, SIZE, STAGE, PARAM, number}
 use Rattle.floats.specs.Numbers.{zeros}
 use Rattle.floats.specs.Fronts.{front}
 use Rattle.matrix.specs.Results.{Result, planned}
 use Rattle.sigma.specs.Draw.{pointNumbers}
+use Rattle.correction.specs.Correct.{applyPlan}
 use Rattle.filter.specs.declared.Filter.{Filter}
 use Rattle.filter.specs.Asked.{Size}
 use Rattle.filter.specs.Filters.{seen, Setting, Closing, Change, sets, closes, abandons, reads}
-use Rattle.filter.specs.Calls.{set-x, set-p, set-q, set-params, set-kind, open-prediction, open-correction, close-prediction, close-correction, read-x, read-p, read-q, read-points, read-params, read-stale, Call, setting, closing, abandon, reading, fits, asks, Done, closed, plan}
+use Rattle.filter.specs.Calls.{set-x, set-p, set-q, set-params, set-kind, open-prediction, open-correction, close-prediction, close-correction, close-correction-flat, read-x, read-p, read-q, read-points, read-params, read-stale, Call, setting, closing, abandon, reading, fits, asks, Done, closed, plan}
 use Rattle.filter.specs.Steps.{step}
-use Rattle.demands.specs.Rows.{here, OutOfRange, FirstFails, Cause, stage, size, short, stale, param, met, gives, Applies, place, ByStep}
+use Rattle.demands.specs.Rows.{here, OutOfRange, FirstFails, Cause, stage, size, short, stale, kind, param, met, gives, Applies, place, ByStep}
 use Rattle.demands.specs.Rows as Row
-use Rattle.demands.specs.Listed.{measured}
+use Rattle.demands.specs.Listed.{measured, measuredFlat}
 use Rattle.demands.specs.Sound.{end, and}
-use Rattle.demands.proofs.Rows.{two-ways}
+use Rattle.demands.proofs.Rows.{two-ways, none}
 use Rattle.demands.proofs.Exactly.{exactly}
 use Rattle.demands.proofs.Passed.{Ran, ran-finish, ran-mapped, ran-either}
-use Rattle.demands.proofs.Listed.{drawing, predicting, correcting, open-prediction-lists, open-correction-lists, close-prediction-lists, close-correction-lists}
+use Rattle.demands.proofs.Listed.{drawing, predicting, open-prediction-lists, open-correction-lists, close-prediction-lists, close-correction-lists, close-correction-flat-lists}
 use Rattle.demands.proofs.ByStep.{StepsOwn, met-by-step, draw-own, correct-own}
 
 -- the change that a call makes is one of its own sort
@@ -59,7 +60,8 @@ module _ (f : Format) (s : Filter) where
   regular (setting (open-prediction b)) = lined refl refl (rw (open-prediction-lists f s b) (draw-own f (s .n) _ _ _)) (ran-mapped _ _ (drawing f s) (λ a e. (_, refl)))
   regular (setting (open-correction b)) = lined refl refl (rw (open-correction-lists f s b) (own-either (s .stale) (draw-own f (s .n) _ _ _))) (ran-either _ (s .stale) _ _ (λ t. ran-mapped _ _ (drawing f s) (λ a e. (_, refl))) (λ t. ran-finish _ _ (_, refl)))
   regular (closing (close-prediction v)) = lined refl refl (rw (close-prediction-lists f s v) (and tt (and tt end))) (ran-mapped _ (closed (s .«drawn_weights») (front (pointNumbers (s .n)) v (zeros 136)) false) (predicting f s v) (λ a e. (_, refl)))
-  regular (closing (close-correction m z r kinds observed)) = lined refl refl (rw (close-correction-lists f s m z r kinds observed) (correct-own f (measured f s m z r kinds observed))) (ran-mapped _ (closed (s .«drawn_weights») (s .«drawn_points») true) (correcting f s m z r kinds observed) (λ a e. (_, refl)))
+  regular (closing (close-correction m z r kinds observed)) = lined refl refl (rw (close-correction-lists f s m z r kinds observed) (correct-own f (measured f s m z r kinds observed))) (ran-mapped _ (closed (s .«drawn_weights») (s .«drawn_points») true) (applyPlan f (measured f s m z r kinds observed)) (λ a e. (_, refl)))
+  regular (closing (close-correction-flat m z r observed)) = lined refl refl (rw (close-correction-flat-lists f s m z r observed) (correct-own f (measuredFlat f s m z r observed))) (ran-mapped _ (closed (s .«drawn_weights») (s .«drawn_points») true) (applyPlan f (measuredFlat f s m z r observed)) (λ a e. (_, refl)))
   regular abandon = lined refl refl end (ran-finish _ _ refl)
   regular (reading (read-x b)) = lined refl refl end (ran-finish _ _ refl)
   regular (reading (read-p b)) = lined refl refl end (ran-finish _ _ refl)
@@ -95,8 +97,23 @@ module _ (f : Format) (s : Filter) (c : Call) where
       by-stage short e x = absurd (let z : _≡_ {A = ℕ} 2 3 = ap number e in omega arith)
       by-stage stale e x = absurd (let z : _≡_ {A = ℕ} 4 3 = ap number e in omega arith)
       by-stage Row.number e x = absurd (let z : _≡_ {A = ℕ} 5 3 = ap number e in omega arith)
+      by-stage kind e x = absurd (let z : _≡_ {A = ℕ} 10 3 = ap number e in omega arith)
       by-stage param e x = absurd (let z : _≡_ {A = ℕ} 6 3 = ap number e in omega arith)
       by-stage (met r) e x = absurd (steps-give STAGE (rw e at x))
+
+  -- 6 is never given where nothing has to pass it
+  pub never-param : asks (seen s) c .params ≡ [] → step f s c .reply .refusal ≢ number PARAM
+  never-param h e = let d = exactly f s c PARAM .0 e in by-param (d .cause) (d .gives-it) (d .applies)
+    where
+      by-param : (d : Cause) → gives d ≡ PARAM → Asked d → ⊥
+      by-param stage e x = let z : _≡_ {A = ℕ} 3 6 = ap number e in omega arith
+      by-param size e x = let z : _≡_ {A = ℕ} 1 6 = ap number e in omega arith
+      by-param short e x = let z : _≡_ {A = ℕ} 2 6 = ap number e in omega arith
+      by-param stale e x = let z : _≡_ {A = ℕ} 4 6 = ap number e in omega arith
+      by-param Row.number e x = let z : _≡_ {A = ℕ} 5 6 = ap number e in omega arith
+      by-param kind e x = let z : _≡_ {A = ℕ} 10 6 = ap number e in omega arith
+      by-param param e x = none (rw h at x)
+      by-param (met r) e x = steps-give PARAM (rw e at x)
 
   -- 1 is given for n outside 1 to 8, by every call that 3 doesn't stop
   pub states-first : OutOfRange (record { value = s .n; from = 1; to = 8 }) → fits c (s .stage) ≡ true → step f s c .reply .refusal ≡ number SIZE
@@ -110,5 +127,6 @@ module _ (f : Format) (s : Filter) (c : Call) where
       early short l x t = absurd (omega arith)
       early stale l x t = absurd (omega arith)
       early Row.number l x t = absurd (omega arith)
+      early kind l x t = absurd (omega arith)
       early param l x t = absurd (omega arith)
       early (met r) l x t = absurd (omega arith)

@@ -9,25 +9,24 @@ use lib.Seq.{getD-take}
 use lib.Ieee.{Float, nan, Format, add, sub, mul}
 use Rattle.floats.specs.Refusal.{INNOV}
 use Rattle.floats.specs.Numbers.{plusZero, zeros}
-use Rattle.floats.specs.Fronts.{front}
 use Rattle.angles.specs.Kinds.{throughOf, plain}
 use Rattle.angles.specs.declared.Kind.{Kind}
 use Rattle.matrix.specs.Folds.{totalOf, placesOf, rowOf, rowsOf}
 use Rattle.matrix.specs.Results.{Plan, finish, after, listed, run, mapped}
-use Rattle.matrix.specs.Sums.{plusOf, minusOf}
+use Rattle.matrix.specs.Sums.{minusOf}
 use Rattle.matrix.specs.Factor.{factorOf}
 use Rattle.matrix.specs.Inverse.{inverseOf}
 use Rattle.matrix.specs.Product.{transbOf}
 use Rattle.sigma.specs.Mean.{meanAt, meanOf, weightSumOf}
-use Rattle.sigma.specs.Spread.{deviationAt, deviationsOf, spreadOf}
+use Rattle.sigma.specs.Spread.{deviationAt, deviationsOf}
 use Rattle.sigma.specs.Predict.{Moment}
 use Rattle.sigma.specs.Weights.{w0mOf}
 use Rattle.correction.specs.Leaves.{innovationAt, innovationOf, shiftedOf, widened}
-use Rattle.correction.specs.Correct.{given, correctPlan}
+use Rattle.correction.specs.Correct.{Head, applyPlan, given, weightedHead, correctPlan}
 use Rattle.filter.specs.declared.Filter.{Filter}
 use Rattle.filter.specs.Asked.{Asks, guarded}
 use Rattle.filter.specs.Filters.{isCorrecting, seen}
-use Rattle.filter.specs.Calls.{closing, close-correction, sized, lend, inKinds, asKinds, line, observedNumbers, closed}
+use Rattle.filter.specs.Calls.{closing, close-correction, sized, inKinds, asKinds, line, observedNumbers, lentMeasured, measurement, closed}
 use Rattle.filter.specs.Steps.{step, stepped}
 
 -- ---- folds over functions that agree where they are asked
@@ -65,29 +64,40 @@ innovation-same f m z mean ks ls a = places-same (innovationAt f z mean ks) (inn
 
 -- ---- the correction
 
-module _ (f : Format) (n m : ℕ) (x p points observed : List Float) (w0m : Float) (w z r : List Float) (kinds : List Kind) where
-  -- the plan by what it makes of the measurement kinds: z mean, the deviations from it, and y
-  abbrev planBy : List Float → (List Float → List Float) → (List Float → List Float) → Plan Moment
-  planBy mean dz y =
-      after (listed m mean) (λ (zm : List Float).
-      after (listed (m * m) (plusOf f (m * m) r (spreadOf f (dz zm) m (dz zm) m w (n + n)))) (λ (s : List Float).
-      after (listed n (meanOf f points n (n + n) w0m w kinds)) (λ (xm : List Float).
-      after (listed (n * m) (spreadOf f (deviationsOf f points n (n + n) xm kinds) n (dz zm) m w (n + n))) (λ (c : List Float).
-      after (factorOf f INNOV s m) (λ (l : List Float).
-      after (listed (m * m) (inverseOf f l m)) (λ (v : List Float).
-      after (listed (n * m) (transbOf f c v m n m)) (λ (k : List Float).
-      after (listed m (y zm)) (λ (i : List Float).
-      after (listed n (shiftedOf f n m x k i)) (λ (x′ : List Float).
-      after (listed (n * n) (minusOf f (n * n) p (transbOf f c k m n n))) (λ (p′ : List Float).
-      finish (record { x = x′; p = p′ })))))))))))
+module _ (f : Format) where
+  -- the shared steps by what they make of the measurement kinds: y
+  abbrev planBy : Head → (List Float → List Float) → Plan Moment
+  planBy h y =
+      after (listed (h .m) (h .zm)) (λ (zm : List Float).
+      after (listed (h .m * h .m) (h .s)) (λ (s : List Float).
+      after (listed (h .n) (h .xm)) (λ (xm : List Float).
+      after (listed (h .n * h .m) (h .c)) (λ (c : List Float).
+      after (factorOf f INNOV s (h .m)) (λ (l : List Float).
+      after (listed (h .m * h .m) (inverseOf f l (h .m))) (λ (v : List Float).
+      after (listed (h .n * h .m) (transbOf f c v (h .m) (h .n) (h .m))) (λ (k : List Float).
+      after (listed (h .m) (y zm)) (λ (i : List Float).
+      after (listed (h .n) (shiftedOf f (h .n) (h .m) (h .x) k i)) (λ (x : List Float).
+      after (listed (h .n * h .n) (minusOf f (h .n * h .n) (h .p) (transbOf f c k (h .m) (h .n) (h .n)))) (λ (p : List Float).
+      finish (record { x = x; p = p })))))))))))
 
-  pub plan-same : (ks ls : List Kind) → Agree m ks ls → correctPlan f (given n m x p points observed w0m w z r kinds ks) ≡ correctPlan f (given n m x p points observed w0m w z r kinds ls)
-  plan-same ks ls a =
-      let dz : List Kind → List Float → List Float = λ us mean. deviationsOf f observed m (n + n) mean us in
-      let y : List Kind → List Float → List Float = λ us mean. innovationOf f m z mean us in
-      ap (λ (b : List Float). planBy b (dz ks) (y ks)) (mean-same f observed m (n + n) w0m w ks ls a)
-      ∙ ap (λ (b : List Float → List Float). planBy (meanOf f observed m (n + n) w0m w ls) b (y ks)) (fun-ext (λ mean. deviations-same f observed m (n + n) mean ks ls a))
-      ∙ ap (λ (b : List Float → List Float). planBy (meanOf f observed m (n + n) w0m w ls) (dz ls) b) (fun-ext (λ mean. innovation-same f m z mean ks ls a))
+  -- the same head with other kinds
+  abbrev with-kinds : Head → List Kind → Head
+  with-kinds h ls = record { n = h .n; m = h .m; x = h .x; p = h .p; z = h .z; measured = ls; zm = h .zm; s = h .s; xm = h .xm; c = h .c }
+
+  apply-same : (h : Head) (ls : List Kind) → Agree (h .m) (h .measured) ls → applyPlan f h ≡ applyPlan f (with-kinds h ls)
+  apply-same h ls a = ap (planBy h) (fun-ext (λ mean. innovation-same f (h .m) (h .z) mean (h .measured) ls a))
+
+  module _ (n m : ℕ) (x p points observed : List Float) (w0m : Float) (w z r : List Float) (kinds ks ls : List Kind) (a : Agree m ks ls) where
+    abbrev head : List Kind → Head
+    head us = weightedHead f (given n m x p points observed w0m w z r kinds us)
+
+    -- z mean, S and cross covariance are the same
+    heads-same : head ks ≡ with-kinds (head ls) ks
+    heads-same =
+        rw (mean-same f observed m (n + n) w0m w ks ls a, deviations-same f observed m (n + n) (meanOf f observed m (n + n) w0m w ls) ks ls a)
+
+    pub plan-same : correctPlan f (given n m x p points observed w0m w z r kinds ks) ≡ correctPlan f (given n m x p points observed w0m w z r kinds ls)
+    plan-same = ap (applyPlan f) heads-same ∙ apply-same (with-kinds (head ls) ks) ls a
 
 -- four kinds each, alike below m
 wide-agree : (m : ℕ) (ks ls : List Kind) → m ≤ 4 → length ks ≡ 4 → length ls ≡ 4 → take m ks ≡ take m ls → Agree m (widened ks) (widened ls)
@@ -104,10 +114,10 @@ kinds-unread f s m z r observed ks ls h a b e =
     let t = seen s in
     let asked : List Kind → Asks =
     λ v. line (isCorrecting (t .stage)) (t .n) (sized m 1 4)
-    (lend z m ++ (lend r (m * m) ++ lend observed (observedNumbers (t .n) m)))
+    (lentMeasured (t .n) m z r observed)
     false
     (take m z ++ (take (m * m) r ++ (inKinds v ++ take (observedNumbers (t .n) m) observed)))
     (asKinds v) in
     ap₂ (λ (v : List Kind) (q : Plan Moment). stepped s (guarded f (asked v) (run (mapped (closed (t .«drawn_weights») (t .«drawn_points») true) q)))) e
-    (plan-same f (t .n) m (t .x) (t .p) (t .«drawn_points») (front (observedNumbers (t .n) m) observed (zeros 136)) (w0mOf f (t .n) (t .params)) (t .«drawn_weights») (front m z (zeros 8))
-    (front (m * m) r (zeros 64)) (t .kinds) (widened ks) (widened ls) (wide-agree m ks ls h a b e))
+    (let v = measurement (t .n) m z r observed in
+    plan-same f (t .n) m (t .x) (t .p) (t .«drawn_points») (v .observed) (w0mOf f (t .n) (t .params)) (t .«drawn_weights») (v .z) (v .r) (t .kinds) (widened ks) (widened ls) (wide-agree m ks ls h a b e))

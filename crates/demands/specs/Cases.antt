@@ -18,11 +18,11 @@ use Rattle.matrix.specs.Factor.{factorOf}
 use Rattle.sigma.specs.declared.Params.{Params}
 use Rattle.sigma.specs.Weights.{lambdaOf, scaleOf, w0mOf, w0cOf, wiOf, weightsOf}
 use Rattle.sigma.specs.Mean.{meanOf}
-use Rattle.correction.specs.Correct.{Given, given}
+use Rattle.correction.specs.Correct.{Head, given, weightedHead}
 use Rattle.filter.specs.declared.Filter.{Filter}
 use Rattle.filter.specs.Calls.{Call, setting, closing, abandon, reading, set-x, set-p, set-kind, open-prediction, open-correction, close-prediction, close-correction, read-points, read-stale}
 use Rattle.filter.specs.New.{newAnswer}
-use Rattle.demands.specs.Listed.{innovationCovariance, gain}
+use Rattle.demands.specs.Listed.{gain}
 use Rattle.demands.specs.Runs.{Told, told}
 use Rattle.demands.specs.Written.{int, minus, frac, two-to-minus, _is_, _are_}
 
@@ -64,10 +64,11 @@ checked (numbers v) = getD v 0 nan
 checked (pivot r x) = x
 checked (rooting x) = x
 
--- what C10's correction is given
-abbrev pub c10 : Given
+-- what C10's correction starts from
+abbrev pub c10 : Head
 c10 =
-    given 1 1 (int 2 ∷ []) (int 5 ∷ []) (int 2 ∷ int 4 ∷ int 0 ∷ []) (int 2 ∷ int 4 ∷ int 0 ∷ []) (w0mOf binary64 1 c1) (weightsOf binary64 1 c1) (int 3 ∷ []) (int 12 ∷ []) (plain ∷ []) (plain ∷ [])
+    weightedHead binary64
+    (given 1 1 (int 2 ∷ []) (int 5 ∷ []) (int 2 ∷ int 4 ∷ int 0 ∷ []) (int 2 ∷ int 4 ∷ int 0 ∷ []) (w0mOf binary64 1 c1) (weightsOf binary64 1 c1) (int 3 ∷ []) (int 12 ∷ []) (plain ∷ []) (plain ∷ []))
 
 -- ---- C9 to C12 through the calls, one run: a state of 2 with P = 4, Q = 1, parameters C1
 
@@ -149,7 +150,7 @@ leafCases =
     ∷ ("C7", take 4 (or [] (worked (factorOf binary64 PIVOT (rows (int 4) (int 2) (int 2) (int 5)) 2))) are (int 2 ∷ int 0 ∷ int 1 ∷ int 2 ∷ []))
     ∷ ("C8 second pivot", checked (getD (results (factorOf binary64 PIVOT (rows (int 1) (int 2) (int 2) (int 1)) 2)) 2 (numbers [])) is minus 3)
     ∷ ("C8 refused", eqb (refusal (worked (factorOf binary64 PIVOT (rows (int 1) (int 2) (int 2) (int 1)) 2))) 7)
-    ∷ ("C10 S", take 1 (innovationCovariance binary64 c10) are (int 16 ∷ []))
+    ∷ ("C10 S", take 1 (c10 .s) are (int 16 ∷ []))
     ∷ ("C10 K", take 1 (gain binary64 c10) are (frac 1 4 ∷ []))
     ∷ ("C12 mean", take 1 (meanOf binary64 (int 179 ∷ minus 171 ∷ int 169 ∷ []) 1 2 (w0mOf binary64 1 c1) (weightsOf binary64 1 c1) (record { residual = Turn (int 180) } ∷ [])) are (int 179 ∷ []))
     ∷ []

@@ -1,4 +1,4 @@
--- Document 01's table of refusals in its own words, and when a number is due. Definitions only.
+-- The table of refusals in document 01's own words (10 is document 02's), and when a number is due. Definitions only.
 use Prim.Native.Nat.{ℕ, _<_}
 use mathlib.Core.Path.{_≡_}
 use mathlib.Core.Bool.{true, false}
@@ -7,8 +7,9 @@ use mathlib.Core.Logic.{_⊎_, _≢_}
 use lib.ListN.{length}
 use lib.Ieee.{Float, Format, lt, add}
 use lib.Ieee.Scale.{finite}
-use Rattle.floats.specs.Refusal.{Refusal, SIZE, SHORT, STAGE, STALE, NUMBER, PARAM, PIVOT, INNOV, RANGE}
+use Rattle.floats.specs.Refusal.{Refusal, SIZE, SHORT, STAGE, STALE, NUMBER, PARAM, PIVOT, INNOV, RANGE, KIND}
 use Rattle.floats.specs.Numbers.{plusZero}
+use Rattle.angles.specs.declared.Kind.{Kind}
 use Rattle.angles.specs.declared.Residual.{Residual}
 use Rattle.angles.specs.declared.Residual.the-variants.{Plain, Turn}
 use Rattle.matrix.specs.Results.{Result, numbers, pivot, rooting, refusalOf}
@@ -37,6 +38,10 @@ OutOfRange s = (s .value < s .from) ⊎ (s .to < s .value)
 abbrev pub Shorter : Lent → Type 0
 Shorter l = length (l .slice) < l .needs
 
+-- 10: a state kind is a turn
+abbrev pub IsTurn : Kind → Type 0
+IsTurn k = (h : Float) × (k .residual ≡ Turn h)
+
 -- 6: n+lambda not finite or not above 0, or w0m, w0c or wi not finite; h not above 0 or 2h not finite
 abbrev pub UnfitTurn : Format → Residual → Type 0
 UnfitTurn f Plain = ⊥
@@ -60,7 +65,7 @@ pub data FirstFails : Refusal → List Result → Type 0 where
 -- ---- THE TABLE: the causes of a refusal, a row each; what the steps meet comes by the first result that fails
 
 pub data Cause : Type 0 where
-  stage size short stale number param : Cause
+  stage size short stale number kind param : Cause
   met : Refusal → Cause
 
 abbrev pub gives : Cause → Refusal
@@ -69,6 +74,7 @@ gives size = SIZE
 gives short = SHORT
 gives stale = STALE
 gives number = NUMBER
+gives kind = KIND
 gives param = PARAM
 gives (met r) = r
 
@@ -78,18 +84,20 @@ Applies f a vs size = Some OutOfRange (a .sizes)
 Applies f a vs short = Some Shorter (a .lent)
 Applies f a vs stale = a .stale ≡ true
 Applies f a vs number = Some NotFinite (a .inputs)
+Applies f a vs kind = Some IsTurn (a .plain)
 Applies f a vs param = Some (Unfit f) (a .params)
 Applies f a vs (met r) = FirstFails r vs
 
--- the order: 3, 1, 2, 4, 5, 6, then 7, 8 and 9 as the steps meet them
+-- the order: 3, 1, 2, 4, 5, 10, 6, then 7, 8 and 9 as the steps meet them
 abbrev pub place : Cause → ℕ
 place stage = 0
 place size = 1
 place short = 2
 place stale = 3
 place number = 4
-place param = 5
-place (met r) = 6
+place kind = 5
+place param = 6
+place (met r) = 7
 
 -- r is due: a row that gives it applies, and no row before it in the order
 pub record Due (f : Format) (a : Asks) (vs : List Result) (r : Refusal) : Type 0 where
@@ -110,6 +118,7 @@ ByStep PARAM = ⊥
 ByStep PIVOT = Unit {0}
 ByStep INNOV = Unit {0}
 ByStep RANGE = Unit {0}
+ByStep KIND = ⊥
 
 -- neither 5 nor 6
 abbrev pub Neither : ℕ → Type 0

@@ -1,8 +1,10 @@
--- The two closes: while one is open what was drawn is seen, and what the steps make is refused or installed. Assumes nothing.
-use Prim.Native.Nat.{ℕ, _*_}
+-- The closes: while a call is open what was drawn is seen, and what the steps make is refused or installed. Assumes nothing.
+use Prim.Native.Nat.{ℕ}
 use mathlib.Core.Path.{_≡_, refl, sym, ap, _∙_}
-use mathlib.Core.Bool.{Bool, true, false, false≢true}
+use mathlib.Core.Bool.{Bool, true, false, cond, false≢true}
 use mathlib.Core.List.{List}
+use borrow.Author.Tests.{eqb-true, eqb-false}
+use lib.Dec.{eqb}
 use lib.Ieee.{Float, Format}
 use Rattle.floats.specs.Numbers.{zeros}
 use Rattle.floats.specs.Fronts.{front}
@@ -14,12 +16,14 @@ use Rattle.sigma.specs.Predict.{Moment, predictPlan, nothingMade, moments}
 use Rattle.sigma.specs.declared.Moments.{Moments}
 use Rattle.correction.specs.Leaves.{widened}
 use Rattle.correction.specs.Correct.{Given, given, correctPlan}
+use Rattle.correction.specs.Flat.{flatPlan}
 use Rattle.filter.specs.declared.Stage.{Stage}
 use Rattle.filter.specs.declared.Stage.the-variants.{Shut, Predicting, Correcting}
 use Rattle.filter.specs.declared.Filter.{Filter}
+use Rattle.filter.specs.declared.Answer.{Answer}
 use Rattle.filter.specs.Filters.{isShut, isPredicting, isCorrecting, seen, close}
-use Rattle.filter.specs.Calls.{Call, closing, close-prediction, close-correction, observedNumbers, closed, plan}
-use Rattle.filter.specs.Steps.{step, answered}
+use Rattle.filter.specs.Calls.{Call, closing, close-prediction, close-correction, close-correction-flat, Measurement, measurement, closed, plan}
+use Rattle.filter.specs.Steps.{step, answered, closedBy}
 use Rattle.filter.proofs.Taken.{Told, stayed, accepted-as, stopped, made}
 
 -- ---- what was drawn is seen
@@ -46,23 +50,41 @@ module _ (f : Format) (s : Filter) where
   predicting-is v h = let e = predicting-open (s .stage) h in rw e
 
   -- what a correction is given, and its plan
-  abbrev pub givenOf : ℕ → List Float → List Float → List Kind → List Float → Given
-  givenOf m z r kinds observed =
-      given (s .n) m (s .x) (s .p) (s .«drawn_points») (front (observedNumbers (s .n) m) observed (zeros 136)) (w0mOf f (s .n) (s .params)) (s .«drawn_weights») (front m z (zeros 8)) (front (m * m) r (zeros 64)) (s .kinds) (widened kinds)
+  abbrev pub givenOf : ℕ → List Kind → Measurement → Given
+  givenOf m kinds v = given (s .n) m (s .x) (s .p) (s .«drawn_points») (v .observed) (w0mOf f (s .n) (s .params)) (s .«drawn_weights») (v .z) (v .r) (s .kinds) (widened kinds)
 
-  pub correcting-is : (m : ℕ) (z r : List Float) (kinds : List Kind) (observed : List Float) → isCorrecting (s .stage) ≡ true → plan f (seen s) (closing (close-correction m z r kinds observed)) ≡ mapped (closed (s .«drawn_weights») (s .«drawn_points») true) (correctPlan f (givenOf m z r kinds observed))
+  pub correcting-is : (m : ℕ) (z r : List Float) (kinds : List Kind) (observed : List Float) → isCorrecting (s .stage) ≡ true → plan f (seen s) (closing (close-correction m z r kinds observed)) ≡ mapped (closed (s .«drawn_weights») (s .«drawn_points») true) (correctPlan f (givenOf m kinds (measurement (s .n) m z r observed)))
   correcting-is m z r kinds observed h = let e = correcting-open (s .stage) h in rw e
 
--- ---- what is made, installed with weights w and points v
+  -- the same by flat averages
+  abbrev pub flatOn : ℕ → Measurement → Plan Moment
+  flatOn m v = flatPlan f (s .n) m (s .x) (s .p) (s .«drawn_points») (v .observed) (v .z) (v .r)
 
-module _ {f : Format} {s : Filter} {c : Call} (t : Told f s c) (z : t .told ≡ 0) (w v : List Float) (stale : Bool) (p : Plan Moment) (is : plan f (seen s) c ≡ mapped (closed w v stale) p) {m : Moments} (e : m ≡ moments (run p)) where
+  pub correcting-flat-is : (m : ℕ) (z r observed : List Float) → isCorrecting (s .stage) ≡ true → plan f (seen s) (closing (close-correction-flat m z r observed)) ≡ mapped (closed (s .«drawn_weights») (s .«drawn_points») true) (flatOn m (measurement (s .n) m z r observed))
+  correcting-flat-is m z r observed h = let e = correcting-open (s .stage) h in rw e
+
+-- ---- what the steps have made: refused, or installed with the opened weights and points v
+
+-- by whether the number is 0
+either : (s : Filter) (v : List Float) (stale : Bool) (m : Moments) (a : Answer)
+    → (m .refusal ≡ 0 → accepted-as (close s (record { x = m .x; p = m .p; installed = record { weights = s .«drawn_weights»; points = v }; stale = stale })) ≡ a)
+    → ((m .refusal ≡ 0 → ⊥) → answered (stayed s (m .refusal)) ≡ a)
+    → closedBy s v stale m ≡ a
+either s v stale m a made refused = go (eqb (m .refusal) 0) (λ h. eqb-true _ _ h) (λ h. eqb-false _ _ h)
+  where
+    go : (t : Bool) → (t ≡ true → m .refusal ≡ 0) → (t ≡ false → m .refusal ≡ 0 → ⊥)
+        → cond t (accepted-as (close s (record { x = m .x; p = m .p; installed = record { weights = s .«drawn_weights»; points = v }; stale = stale }))) (answered (stayed s (m .refusal))) ≡ a
+    go true h k = made (h refl)
+    go false h k = refused (k refl)
+
+module _ {f : Format} {s : Filter} {c : Call} (t : Told f s c) (z : t .told ≡ 0) (v : List Float) (stale : Bool) (p : Plan Moment) (is : plan f (seen s) c ≡ mapped (closed (s .«drawn_weights») v stale) p) {m : Moments} (e : m ≡ moments (run p)) where
   number-is : m .refusal ≡ moments (run p) .refusal
   number-is = ap (λ (x : Moments). x .refusal) e
 
-  pub close-refused : (m .refusal ≡ 0 → ⊥) → answered (stayed s (m .refusal)) ≡ answered (step f s c)
-  close-refused h = ap (λ (x : ℕ). answered (stayed s x)) number-is ∙ ap answered (sym (stopped t z (closed w v stale) p is (λ y. h (number-is ∙ y))))
-
-  pub close-made : m .refusal ≡ 0 → {g : Filter} → g ≡ close s (record { x = m .x; p = m .p; installed = record { weights = w; points = v }; stale = stale }) → accepted-as g ≡ answered (step f s c)
-  close-made h d =
-      ap accepted-as (d ∙ ap (λ (x : Moments). close s (record { x = x .x; p = x .p; installed = record { weights = w; points = v }; stale = stale })) e)
-      ∙ ap answered (sym (made t z (closed w v stale) p is nothingMade (sym number-is ∙ h)))
+  pub closes-so : {r : Answer} → r ≡ closedBy s v stale m → r ≡ answered (step f s c)
+  closes-so d =
+      d
+      ∙ either s v stale m (answered (step f s c))
+      (λ h. ap (λ (x : Moments). accepted-as (close s (record { x = x .x; p = x .p; installed = record { weights = s .«drawn_weights»; points = v }; stale = stale }))) e
+      ∙ ap answered (sym (made t z (closed (s .«drawn_weights») v stale) p is nothingMade (sym number-is ∙ h))))
+      (λ h. ap (λ (x : ℕ). answered (stayed s x)) number-is ∙ ap answered (sym (stopped t z (closed (s .«drawn_weights») v stale) p is (λ y. h (number-is ∙ y)))))

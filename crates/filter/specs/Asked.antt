@@ -1,13 +1,13 @@
--- What a call asks, a field for each row of document 01's table of refusals, and the order in which the rows are tried. Definitions only.
+-- What a call asks, a field for each row of the table of refusals, and the order in which the rows are tried. Definitions only.
 use Prim.Native.Nat.{ℕ}
 use mathlib.Core.Bool.{Bool, true, not, _&&_}
 use mathlib.Core.List.{List, [], _∷_}
 use lib.ListN.{length}
 use lib.Dec.{leb, eqb}
 use lib.Ieee.{Float, Format}
-use Rattle.floats.specs.Refusal.{SIZE, SHORT, STAGE, STALE, NUMBER, PARAM, Outcome, accepted, refusal, unless}
+use Rattle.floats.specs.Refusal.{SIZE, SHORT, STAGE, STALE, NUMBER, KIND, PARAM, Outcome, accepted, refusal, unless}
 use Rattle.floats.specs.Numbers.{allFinite}
-use Rattle.angles.specs.Kinds.{passes, kindOf}
+use Rattle.angles.specs.Kinds.{isPlain, passes, kindOf}
 use Rattle.angles.specs.declared.Kind.{Kind}
 use Rattle.sigma.specs.Weights.{weightsPass}
 use Rattle.sigma.specs.declared.Params.{Params}
@@ -37,6 +37,8 @@ pub record Asks : Type 0 where
   pub stale : Bool
   -- 5: the numbers that come in
   pub inputs : List Float
+  -- 10: the kinds that have to be plain
+  pub plain : List Kind
   pub params : List Param
 
 -- ---- the tests
@@ -50,6 +52,9 @@ within s = inRange (s .from) (s .to) (s .value)
 abbrev pub long : Lent → Bool
 long l = leb (l .needs) (length (l .slice))
 
+abbrev pub straight : Kind → Bool
+straight k = isPlain (k .residual)
+
 abbrev pub fit : Format → Param → Bool
 fit f (by-params n p) = weightsPass f n p
 fit f (by-kind k) = passes f (k .residual)
@@ -62,21 +67,22 @@ abbrev pub every : {A : Type 0} → (A → Bool) → List A → Bool
 every t [] = true
 every t (x ∷ l) = t x && every t l
 
--- ---- the order: 3, 1, 2, 4, 5, 6, then what the steps o come to (7, 8 and 9 as they meet them)
+-- ---- the order: 3, 1, 2, 4, 5, 10, 6, then what the steps o come to (7, 8 and 9 as they meet them)
 
-unfoldable pub inOrder : {A : Type 0} → Bool → Bool → Bool → Bool → Bool → Bool → Outcome A → Outcome A
-inOrder fits sized long stale finite passing o =
+unfoldable pub inOrder : {A : Type 0} → Bool → Bool → Bool → Bool → Bool → Bool → Bool → Outcome A → Outcome A
+inOrder fits sized long stale finite plain passing o =
     unless fits STAGE
     (unless sized SIZE
     (unless long SHORT
     (unless (not stale) STALE
     (unless finite NUMBER
+    (unless plain KIND
     (unless passing PARAM
-    o)))))
+    o))))))
 
 unfoldable pub guarded : {A : Type 0} → Format → Asks → Outcome A → Outcome A
 unfolding inOrder
-guarded f a o = inOrder (a .fits) (every within (a .sizes)) (every long (a .lent)) (a .stale) (allFinite (a .inputs)) (every (fit f) (a .params)) o
+guarded f a o = inOrder (a .fits) (every within (a .sizes)) (every long (a .lent)) (a .stale) (allFinite (a .inputs)) (every straight (a .plain)) (every (fit f) (a .params)) o
 
 -- the number that these tests give by themselves, 0 where all pass
 abbrev pub nothing : Outcome Bool

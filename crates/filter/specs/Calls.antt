@@ -15,6 +15,7 @@ use Rattle.sigma.specs.Draw.{pointNumbers, drawPlan}
 use Rattle.sigma.specs.Predict.{Moment, predictPlan}
 use Rattle.correction.specs.Leaves.{widened}
 use Rattle.correction.specs.Correct.{given, correctPlan}
+use Rattle.correction.specs.Flat.{flatPlan}
 use Rattle.filter.specs.declared.Stage.{Stage}
 use Rattle.filter.specs.declared.Stage.the-variants.{Shut, Predicting, Correcting}
 use Rattle.filter.specs.declared.Weighted.{Weighted}
@@ -34,6 +35,8 @@ pub data CloseCall : Type 0 where
   close-prediction : List Float → CloseCall
   -- m, z, R, the four measurement kinds, the observed points
   close-correction : ℕ → List Float → List Float → List Kind → List Float → CloseCall
+  -- by flat averages: m, z, R, the observed points
+  close-correction-flat : ℕ → List Float → List Float → List Float → CloseCall
 
 pub data ReadCall : Type 0 where
   read-x read-p read-q read-points : List Float → ReadCall
@@ -56,6 +59,7 @@ opening Correcting b = setting (open-correction b)
 abbrev pub ownOpen : CloseCall → Stage → Bool
 ownOpen (close-prediction points) t = isPredicting t
 ownOpen (close-correction m z r kinds observed) t = isCorrecting t
+ownOpen (close-correction-flat m z r observed) t = isCorrecting t
 
 abbrev pub fits : Call → Stage → Bool
 fits (setting c) t = isShut t
@@ -63,7 +67,7 @@ fits (closing c) t = ownOpen c t
 fits abandon t = not (isShut t)
 fits (reading c) t = true
 
--- ---- what each call needs beside that and 1 to 8 states: sizes; lent slices with how much of each is needed; whether stale stops it; the numbers that come in; what has to pass 6
+-- ---- what each call needs beside that and 1 to 8 states: sizes; lent slices with how much of each is needed; whether stale stops it; the numbers that come in; kinds that have to be plain; what has to pass 6
 
 abbrev pub sized : ℕ → ℕ → ℕ → List Size
 sized v from to = record { value = v; from = from; to = to } ∷ []
@@ -84,19 +88,33 @@ pub record Needs : Type 0 where
   pub lent : List Lent
   pub stale : Bool
   pub inputs : List Float
+  pub plain : List Kind
   pub params : List Param
 
--- what is asked in all: that the call fits what is open, 1 to 8 states, and the rest
-abbrev pub line : Bool → ℕ → List Size → List Lent → Bool → List Float → List Param → Asks
-line fits n sizes lent stale inputs params = record { fits = fits; sizes = record { value = n; from = 1; to = 8 } ∷ sizes; lent = lent; stale = stale; inputs = inputs; params = params }
+-- a line of the table of calls; it asks no kind to be plain,
+abbrev pub needing : List Size → List Lent → Bool → List Float → List Param → Needs
+needing sizes lent stale inputs params = record { sizes = sizes; lent = lent; stale = stale; inputs = inputs; plain = []; params = params }
+
+-- but for these
+abbrev pub allStraight : List Kind → Needs → Needs
+allStraight kinds a = record { sizes = a .sizes; lent = a .lent; stale = a .stale; inputs = a .inputs; plain = kinds; params = a .params }
 
 -- the numbers of 2n+1 observed points of m
 abbrev pub observedNumbers : ℕ → ℕ → ℕ
 observedNumbers n m = (n + n + 1) * m
 
--- a line of the table of calls
-abbrev pub needing : List Size → List Lent → Bool → List Float → List Param → Needs
-needing sizes lent stale inputs params = record { sizes = sizes; lent = lent; stale = stale; inputs = inputs; params = params }
+-- z, R and the observed points of m measurements
+abbrev pub lentMeasured : ℕ → ℕ → List Float → List Float → List Float → List Lent
+lentMeasured n m z r observed = lend z m ++ (lend r (m * m) ++ lend observed (observedNumbers n m))
+
+-- the same as the steps take it: the front of each slice, +0 past it
+pub record Measurement : Type 0 where
+  pub z : List Float
+  pub r : List Float
+  pub observed : List Float
+
+abbrev pub measurement : ℕ → ℕ → List Float → List Float → List Float → Measurement
+measurement n m z r observed = record { z = front m z (zeros 8); r = front (m * m) r (zeros 64); observed = front (observedNumbers n m) observed (zeros 136) }
 
 abbrev pub needs : Filter → Call → Needs
 needs s (setting (set-x v)) = needing [] (lend v (s .n)) false (take (s .n) v) []
@@ -109,10 +127,17 @@ needs s (setting (open-correction b)) = needing [] (lend b (pointNumbers (s .n))
 needs s (closing (close-prediction v)) = needing [] (lend v (pointNumbers (s .n))) false (take (pointNumbers (s .n)) v) []
 needs s (closing (close-correction m z r kinds observed)) =
     needing (sized m 1 4)
-    (lend z m ++ (lend r (m * m) ++ lend observed (observedNumbers (s .n) m)))
+    (lentMeasured (s .n) m z r observed)
     false
     (take m z ++ (take (m * m) r ++ (inKinds (take m kinds) ++ take (observedNumbers (s .n) m) observed)))
     (asKinds (take m kinds))
+needs s (closing (close-correction-flat m z r observed)) =
+    allStraight (take (s .n) (s .kinds))
+    (needing (sized m 1 4)
+    (lentMeasured (s .n) m z r observed)
+    false
+    (take m z ++ (take (m * m) r ++ take (observedNumbers (s .n) m) observed))
+    [])
 needs s abandon = needing [] [] false [] []
 needs s (reading (read-x b)) = needing [] (lend b (s .n)) false [] []
 needs s (reading (read-p b)) = needing [] (lend b (s .n * s .n)) false [] []
@@ -121,8 +146,15 @@ needs s (reading (read-points b)) = needing [] (lend b (pointNumbers (s .n))) (s
 needs s (reading read-params) = needing [] [] false [] []
 needs s (reading read-stale) = needing [] [] false [] []
 
+-- what is asked in all: that the call fits what is open, 1 to 8 states, and the rest
+abbrev pub asking : Bool → ℕ → Needs → Asks
+asking fits n a = record { fits = fits; sizes = record { value = n; from = 1; to = 8 } ∷ a .sizes; lent = a .lent; stale = a .stale; inputs = a .inputs; plain = a .plain; params = a .params }
+
+abbrev pub line : Bool → ℕ → List Size → List Lent → Bool → List Float → List Param → Asks
+line fits n sizes lent stale inputs params = asking fits n (needing sizes lent stale inputs params)
+
 abbrev pub asks : Filter → Call → Asks
-asks s c = let a = needs s c in line (fits c (s .stage)) (s .n) (a .sizes) (a .lent) (a .stale) (a .inputs) (a .params)
+asks s c = asking (fits c (s .stage)) (s .n) (needs s c)
 
 -- ---- what a call does once taken: its change, the numbers that it hands out, and what a reading of the stale mark answers (elsewhere true, which tells nothing)
 
@@ -159,10 +191,13 @@ module _ (f : Format) where
       let points = front (pointNumbers (s .n)) v (zeros 136) in
       mapped (closed (s .«drawn_weights») points false) (predictPlan f (s .n) points (w0mOf f (s .n) (s .params)) (s .«drawn_weights») (s .kinds) (s .q))
   plan s (closing (close-correction m z r kinds observed)) =
+      let v = measurement (s .n) m z r observed in
       mapped (closed (s .«drawn_weights») (s .«drawn_points») true)
-      (correctPlan f
-      (given (s .n) m (s .x) (s .p) (s .«drawn_points») (front (observedNumbers (s .n) m) observed (zeros 136)) (w0mOf f (s .n) (s .params)) (s .«drawn_weights») (front m z (zeros 8)) (front (m * m) r (zeros 64)) (s .kinds)
-      (widened kinds)))
+      (correctPlan f (given (s .n) m (s .x) (s .p) (s .«drawn_points») (v .observed) (w0mOf f (s .n) (s .params)) (s .«drawn_weights») (v .z) (v .r) (s .kinds) (widened kinds)))
+  plan s (closing (close-correction-flat m z r observed)) =
+      let v = measurement (s .n) m z r observed in
+      mapped (closed (s .«drawn_weights») (s .«drawn_points») true)
+      (flatPlan f (s .n) m (s .x) (s .p) (s .«drawn_points») (v .observed) (v .z) (v .r))
   plan s abandon = finish (done abandons [])
   plan s (reading (read-x b)) = finish (done reads (take (s .n) (s .x)))
   plan s (reading (read-p b)) = finish (done reads (take (s .n * s .n) (s .p)))

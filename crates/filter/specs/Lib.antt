@@ -1,7 +1,8 @@
--- What a call asks, filters and their changes, the table of calls, one step; New; point k of a list.
+-- What a call asks, filters and their changes, the table of calls, a measurement as it is lent, one step; New; point k of a list.
 pub mod Asked
 pub mod Filters
 pub mod Calls
+pub mod Measured
 pub mod Steps
 pub mod New
 pub mod Point

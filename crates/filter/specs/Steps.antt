@@ -1,19 +1,21 @@
 -- One step of a filter: every contract of a call cites it. A refused call changes nothing and hands out nothing. Definitions only.
 use Prim.Native.Nat.{ℕ}
-use mathlib.Core.Bool.{Bool, true}
+use mathlib.Core.Bool.{Bool, true, cond}
 use mathlib.Core.List.{List, []}
+use lib.Dec.{eqb}
 use lib.ListN.{getD}
 use lib.Ieee.{Float, Format}
 use Rattle.floats.specs.Refusal.{number, taken, Outcome, refused, accepted}
 use Rattle.floats.specs.Numbers.{plusZero}
 use Rattle.matrix.specs.Results.{run}
 use Rattle.sigma.specs.declared.Params.{Params}
+use Rattle.sigma.specs.declared.Moments.{Moments}
 use Rattle.filter.specs.declared.Filter.{Filter}
 use Rattle.filter.specs.declared.Answer.{Answer}
 use Rattle.filter.specs.declared.ParamsRead.{ParamsRead}
 use Rattle.filter.specs.declared.StaleRead.{StaleRead}
 use Rattle.filter.specs.Asked.{guarded}
-use Rattle.filter.specs.Filters.{seen, changed}
+use Rattle.filter.specs.Filters.{seen, close, changed}
 use Rattle.filter.specs.Calls.{Call, asks, Done, plan}
 
 -- what a call comes to on a filter as seen
@@ -42,6 +44,13 @@ step f s c = stepped s (outcome f (seen s) c)
 
 abbrev pub answered : Stepped → Answer
 answered t = record { filter = t .filter; refusal = t .reply .refusal }
+
+-- a close by what its steps have made: refused, or x and P set, with the points and the opened weights installed
+abbrev pub closedBy : Filter → List Float → Bool → Moments → Answer
+closedBy s points stale m =
+    cond (eqb (m .refusal) 0)
+    (record { filter = close s (record { x = m .x; p = m .p; installed = record { weights = s .«drawn_weights»; points = points }; stale = stale }); refusal = taken })
+    (record { filter = s; refusal = m .refusal })
 
 -- three numbers, or +0s where a reading is refused
 abbrev pub paramsOf : List Float → Params

@@ -1,23 +1,33 @@
-// Close prediction and close correction: x and P set, the points and the opened weights installed, scratch at +0.
+// Close prediction and the two ways to close a correction: x and P set, the points and the opened weights installed, scratch at +0.
 ghost use mathlib.Core.Path.{_≡_};
 ghost use lib.Ieee.{binary64};
-ghost use Rattle.filter.specs.Filters.{close};
-ghost use Rattle.filter.specs.Calls.{closing, close-prediction, close-correction};
-ghost use Rattle.filter.specs.Steps.{step, answered};
+ghost use Rattle.filter.specs.Calls.{closing, close-prediction, close-correction, close-correction-flat};
+ghost use Rattle.filter.specs.Steps.{step, answered, closedBy};
 use crate::Answer;
 use crate::Filter;
 use crate::drawn;
 use crate::fronts;
+use crate::measured;
 use crate::tests;
 use angles::Kind;
+use correction::flat;
+use sigma::Moments;
 use sigma::predict;
 use sigma::weights;
 
 impl Filter {
-    // What a close has made and installs, with the opened weights.
-    fn close(self, x: [f64; 8], p: [f64; 64], points: [f64; 136], stale: bool) -> Filter
-        ensures { λ r. ⌜ r ≡ close self (record { x = x; p = p; installed = record { weights = self .«drawn_weights»; points = points }; stale = stale }) ⌝ }
+    // What a close comes to by what its steps have made: refused, or x and P set and the points installed with the opened weights.
+    fn close(self, made: Moments, points: [f64; 136], stale: bool) -> Answer
+        ensures { λ r. ⌜ r ≡ closedBy self points stale made ⌝ }
     {
+        if made.refusal != 0 {
+            return Answer {
+                filter: self,
+                refusal: made.refusal,
+            };
+        }
+        let x = made.x;
+        let p = made.p;
         let weights = self.drawn_weights;
         let mut f = drawn::shut(self);
         f.x = x;
@@ -25,7 +35,10 @@ impl Filter {
         f.weights = weights;
         f.points = points;
         f.stale = stale;
-        f
+        Answer {
+            filter: f,
+            refusal: 0,
+        }
     }
 
     pub fn close_prediction(self, points: &[f64]) -> Answer
@@ -49,16 +62,7 @@ impl Filter {
         let kinds = self.kinds;
         let q = self.q;
         let made = predict::reconstruct_prediction(n, &propagated, w0m, &w, kinds, &q);
-        if made.refusal != 0 {
-            return Answer {
-                filter: self,
-                refusal: made.refusal,
-            };
-        }
-        let x = made.x;
-        let p = made.p;
-        let filter = self.close(x, p, propagated, false);
-        Answer { filter, refusal: 0 }
+        self.close(made, propagated, false)
     }
 
     pub fn close_correction(
@@ -74,26 +78,28 @@ impl Filter {
         let n = self.n;
         let stage = self.stage;
         let correcting = tests::is_correcting(stage);
-        let states = tests::is_sized(n);
-        let measurements = tests::in_range(1, 4, m);
-        let sized = tests::both(states, measurements);
-        let mm = tests::square(m);
-        let k = tests::point_numbers(n, m);
-        let long = tests::all_long(z, m, r, mm, observed, k);
-        let slices_finite = tests::fronts_finite(z, m, r, mm, observed, k);
         let turns_finite = tests::no_kind_refused(m, kinds, 5);
-        let finite = tests::both(slices_finite, turns_finite);
         let passing = tests::no_kind_refused(m, kinds, 6);
-        let refusal = tests::first_refusal(correcting, sized, long, false, finite, passing);
-        if refusal != 0 {
+        let lent = measured::take_in(
+            correcting,
+            n,
+            m,
+            z,
+            r,
+            observed,
+            turns_finite,
+            true,
+            passing,
+        );
+        if lent.refusal != 0 {
             return Answer {
                 filter: self,
-                refusal,
+                refusal: lent.refusal,
             };
         }
-        let measured = fronts::vector(z, m);
-        let noise = fronts::matrix(r, mm);
-        let seen = fronts::points(observed, k);
+        let z = lent.z;
+        let r = lent.r;
+        let observed = lent.observed;
         let params = self.params;
         let w0m = weights::center_weight(n, params);
         let x = self.x;
@@ -107,23 +113,40 @@ impl Filter {
             &x,
             &p,
             &points,
-            &seen,
+            &observed,
             w0m,
             &w,
-            &measured,
-            &noise,
+            &z,
+            &r,
             state_kinds,
             kinds,
         );
-        if made.refusal != 0 {
+        self.close(made, points, true)
+    }
+
+    // By flat averages: the weights are not used, and none of the first n state kinds may be a turn.
+    pub fn close_correction_flat(self, m: usize, z: &[f64], r: &[f64], observed: &[f64]) -> Answer
+        ensures { λ a. ⌜ a ≡ answered (step binary64 self (closing (close-correction-flat m (now (z .entry)) (now (r .entry)) (now (observed .entry))))) ⌝ }
+    {
+        let n = self.n;
+        let stage = self.stage;
+        let correcting = tests::is_correcting(stage);
+        let kinds = self.kinds;
+        let plain = tests::all_plain(n, kinds);
+        let lent = measured::take_in(correcting, n, m, z, r, observed, true, plain, true);
+        if lent.refusal != 0 {
             return Answer {
                 filter: self,
-                refusal: made.refusal,
+                refusal: lent.refusal,
             };
         }
-        let x = made.x;
-        let p = made.p;
-        let filter = self.close(x, p, points, true);
-        Answer { filter, refusal: 0 }
+        let z = lent.z;
+        let r = lent.r;
+        let observed = lent.observed;
+        let x = self.x;
+        let p = self.p;
+        let points = self.drawn_points;
+        let made = flat::correct_nonlinear(n, m, &x, &p, &points, &observed, &z, &r);
+        self.close(made, points, true)
     }
 }

@@ -57,7 +57,7 @@ impl Filter {
         let params_finite = tests::params_finite(params);
         let finite = tests::both(slices_finite, params_finite);
         let passing = tests::params_pass(n, params);
-        let refusal = tests::first_refusal(true, sized, long, false, finite, passing);
+        let refusal = tests::first_refusal(true, sized, long, false, finite, true, passing);
         if refusal != 0 {
             let filter = empty();
             return Answer { filter, refusal };

@@ -45,7 +45,7 @@ impl Filter {
         let shut = tests::is_shut(before);
         let sized = tests::is_sized(n);
         let k = tests::point_numbers(n, n);
-        let refusal = tests::first_refusal(shut, sized, k <= out.len(), false, true, true);
+        let refusal = tests::first_refusal(shut, sized, k <= out.len(), false, true, true, true);
         if refusal != 0 {
             return Answer {
                 filter: self,
@@ -96,7 +96,7 @@ impl Filter {
         let stage = self.stage;
         let shut = tests::is_shut(stage);
         let sized = tests::is_sized(n);
-        let refusal = tests::first_refusal(!shut, sized, true, false, true, true);
+        let refusal = tests::first_refusal(!shut, sized, true, false, true, true, true);
         if refusal != 0 {
             return Answer {
                 filter: self,

@@ -12,7 +12,7 @@ pub fn point_refusal(list: &[f64], n: usize, k: usize) -> u8
     let last = tests::last_point(n);
     let sized = tests::both(states, k <= last);
     let numbers = tests::point_numbers(n, n);
-    tests::first_refusal(true, sized, numbers <= list.len(), false, true, true)
+    tests::first_refusal(true, sized, numbers <= list.len(), false, true, true, true)
 }
 
 pub fn point(list: &[f64], n: usize, k: usize) -> &[f64]

@@ -24,7 +24,7 @@ fn read(n: usize, k: usize, stale: bool, s: &[f64], out: &mut [f64]) -> u8
     ensures { λ r. ⌜ now (out .exit) ≡ over (or [] (guarded binary64 (line true n [] (lend (now (out .entry)) k) stale [] []) (accepted (take k (now (s .entry)))))) (now (out .entry)) ⌝ }
 {
     let sized = tests::is_sized(n);
-    let refusal = tests::first_refusal(true, sized, k <= out.len(), stale, true, true);
+    let refusal = tests::first_refusal(true, sized, k <= out.len(), stale, true, true, true);
     if refusal != 0 {
         return refusal;
     }
@@ -77,7 +77,7 @@ impl Filter {
     {
         let n = self.n;
         let sized = tests::is_sized(n);
-        let refusal = tests::first_refusal(true, sized, true, false, true, true);
+        let refusal = tests::first_refusal(true, sized, true, false, true, true, true);
         if refusal != 0 {
             let params = Params {
                 alpha: 0.0,
@@ -95,7 +95,7 @@ impl Filter {
     {
         let n = self.n;
         let sized = tests::is_sized(n);
-        let refusal = tests::first_refusal(true, sized, true, false, true, true);
+        let refusal = tests::first_refusal(true, sized, true, false, true, true, true);
         if refusal != 0 {
             return StaleRead {
                 refusal,

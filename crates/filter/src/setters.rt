@@ -88,7 +88,7 @@ impl Filter {
         let sized = tests::is_sized(n);
         let finite = tests::params_finite(params);
         let passing = tests::params_pass(n, params);
-        let refusal = tests::first_refusal(shut, sized, true, false, finite, passing);
+        let refusal = tests::first_refusal(shut, sized, true, false, finite, true, passing);
         if refusal != 0 {
             return Answer {
                 filter: self,
@@ -112,7 +112,7 @@ impl Filter {
         let states = tests::is_sized(n);
         let sized = tests::both(states, i < n);
         let check = angles::kind_refusal(kind);
-        let refusal = tests::first_refusal(shut, sized, true, false, check != 5, check != 6);
+        let refusal = tests::first_refusal(shut, sized, true, false, check != 5, true, check != 6);
         if refusal != 0 {
             return Answer {
                 filter: self,

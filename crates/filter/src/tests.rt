@@ -9,24 +9,26 @@ ghost use lib.Ieee.{binary64};
 ghost use Rattle.floats.specs.Refusal.{refusal};
 ghost use Rattle.floats.specs.Numbers.{allFinite};
 ghost use Rattle.sigma.specs.Weights.{weightsPass};
-ghost use Rattle.filter.specs.Asked.{inRange, long, clear, every, inOrder, nothing, firstRefusal};
+ghost use Rattle.filter.specs.Asked.{inRange, long, straight, clear, every, inOrder, nothing, firstRefusal};
 ghost use Rattle.filter.specs.Filters.{isShut, isPredicting, isCorrecting};
 ghost use Rattle.filter.specs.Calls.{line, lend, observedNumbers};
 use crate::Stage;
 use angles::Kind;
+use angles::Residual;
 use sigma::Params;
 use sigma::weights;
 
-// The first refusal in the order 3, 1, 2, 4, 5, 6, or 0.
+// The first refusal in the order 3, 1, 2, 4, 5, 10, 6, or 0.
 pub fn first_refusal(
     fits: bool,
     sized: bool,
     long: bool,
     stale: bool,
     finite: bool,
+    plain: bool,
     passing: bool,
 ) -> u8
-    ensures { λ r. ⌜ r ≡ refusal (inOrder fits sized long stale finite passing nothing) ⌝ }
+    ensures { λ r. ⌜ r ≡ refusal (inOrder fits sized long stale finite plain passing nothing) ⌝ }
 {
     if !fits {
         return 3;
@@ -42,6 +44,9 @@ pub fn first_refusal(
     }
     if !finite {
         return 5;
+    }
+    if !plain {
+        return 10;
     }
     if !passing {
         return 6;
@@ -142,7 +147,7 @@ pub fn last_point(n: usize) -> usize
     0
 }
 
-// ---- 5 and 6
+// ---- 5, 10 and 6
 
 pub fn params_finite(params: Params) -> bool
     ensures { λ r. ⌜ r ≡ allFinite (params .alpha ∷ params .beta ∷ params .kappa ∷ []) ⌝ }
@@ -177,6 +182,34 @@ pub fn no_kind_refused(m: usize, kinds: [Kind; 4], number: u8) -> bool
     true
 }
 
+// Whether the kind is no turn.
+fn is_plain(k: Kind) -> bool
+    ensures { λ r. ⌜ r ≡ straight k ⌝ }
+{
+    let residual = k.residual;
+    match residual {
+        Residual::Plain => true,
+        Residual::Turn(_) => false,
+    }
+}
+
+// Whether none of the first n state kinds is a turn.
+pub fn all_plain(n: usize, kinds: [Kind; 8]) -> bool
+    ensures { λ r. ⌜ r ≡ every straight (take n kinds) ⌝ }
+{
+    let mut i = 0usize;
+    while i < n {
+        if i >= 8 {
+            return true;
+        }
+        if !is_plain(kinds[i]) {
+            return false;
+        }
+        i += 1;
+    }
+    true
+}
+
 // ---- calls that take in the first numbers of lent slices
 
 // One slice, and nothing else to test.
@@ -185,7 +218,7 @@ pub fn slice_refusal(fits: bool, n: usize, k: usize, s: &[f64]) -> u8
 {
     let sized = is_sized(n);
     let finite = floats::all_finite(s, k);
-    first_refusal(fits, sized, k <= s.len(), false, finite, true)
+    first_refusal(fits, sized, k <= s.len(), false, finite, true, true)
 }
 
 // Of three slices, whether each is long enough, and whether the numbers taken in are finite.

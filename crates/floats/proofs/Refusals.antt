@@ -4,7 +4,7 @@ use mathlib.Core.Path.{_≡_, refl}
 use mathlib.Core.Bool.{Bool, true, false}
 use mathlib.Core.Logic.{_≢_, _⊎_, inl, inr}
 use native.Mathlib.Omega.{arith}
-use Rattle.floats.specs.Refusal.{Refusal, SIZE, SHORT, STAGE, STALE, NUMBER, PARAM, PIVOT, INNOV, RANGE, number, Outcome, refused, accepted, refusal, or, unless, onward}
+use Rattle.floats.specs.Refusal.{Refusal, SIZE, SHORT, STAGE, STALE, NUMBER, PARAM, PIVOT, INNOV, RANGE, KIND, number, Outcome, refused, accepted, refusal, or, unless, onward}
 
 -- no refusal has the number 0
 pub number-above : (r : Refusal) → 0 < number r
@@ -17,6 +17,7 @@ number-above PARAM = omega arith
 number-above PIVOT = omega arith
 number-above INNOV = omega arith
 number-above RANGE = omega arith
+number-above KIND = omega arith
 
 module _ {A : Type 0} where
   pub refused-never : {r : Refusal} {a : A} → refused r ≡ accepted a → ⊥

@@ -1,10 +1,10 @@
--- The nine refusals of document 01, their numbers, and what a call or a step comes to. Definitions only.
+-- The refusals of documents 01 and 02, their numbers, and what a call or a step comes to. Definitions only.
 use Prim.Native.Nat.{ℕ}
 use mathlib.Core.Bool.{Bool, cond}
 
 -- the table, row by row: No. and Name
 pub data Refusal : Type 0 where
-  SIZE SHORT STAGE STALE NUMBER PARAM PIVOT INNOV RANGE : Refusal
+  SIZE SHORT STAGE STALE NUMBER PARAM PIVOT INNOV RANGE KIND : Refusal
 
 abbrev pub number : Refusal → ℕ
 number SIZE = 1
@@ -16,6 +16,7 @@ number PARAM = 6
 number PIVOT = 7
 number INNOV = 8
 number RANGE = 9
+number KIND = 10
 
 -- 0 means accepted
 abbrev pub taken : ℕ

@@ -26,7 +26,7 @@ pub fn bad(filter: Filter, out: &mut [u8], used: usize) -> Turn
     }
 }
 
-fn digit(out: &mut [u8], used: usize, r: u8) -> usize {
+fn put_refusal(out: &mut [u8], used: usize, r: u8) -> usize {
     script::put_decimal(out, used, r as u64)
 }
 
@@ -34,7 +34,7 @@ fn digit(out: &mut [u8], used: usize, r: u8) -> usize {
 pub fn number(a: Answer, out: &mut [u8], used: usize) -> Turn
     ensures { λ r. ⌜ r .filter ≡ a .filter ⌝ }
 {
-    let at = digit(out, used, a.refusal);
+    let at = put_refusal(out, used, a.refusal);
     let filter = a.filter;
     Turn {
         filter,
@@ -46,7 +46,7 @@ pub fn number(a: Answer, out: &mut [u8], used: usize) -> Turn
 pub fn buffer(a: Answer, lent: &[f64], out: &mut [u8], used: usize) -> Turn
     ensures { λ r. ⌜ r .filter ≡ a .filter ⌝ }
 {
-    let at = digit(out, used, a.refusal);
+    let at = put_refusal(out, used, a.refusal);
     let at = script::put(out, at, b" ");
     let at = script::put_decimal(out, at, lent.len() as u64);
     let at = script::put_numbers(out, at, lent, lent.len());
@@ -128,7 +128,7 @@ pub fn params(filter: Filter, out: &mut [u8], used: usize) -> Turn
     ensures { λ r. ⌜ r .filter ≡ filter ⌝ }
 {
     let read = filter.read_params();
-    let at = digit(out, used, read.refusal);
+    let at = put_refusal(out, used, read.refusal);
     let given = read.params;
     let at = put_params(out, at, given);
     Turn {
@@ -149,7 +149,7 @@ pub fn stale(filter: Filter, out: &mut [u8], used: usize) -> Turn
     ensures { λ r. ⌜ r .filter ≡ filter ⌝ }
 {
     let read = filter.read_stale();
-    let at = digit(out, used, read.refusal);
+    let at = put_refusal(out, used, read.refusal);
     let at = put_bit(out, at, read.stale);
     Turn {
         filter,
@@ -159,7 +159,7 @@ pub fn stale(filter: Filter, out: &mut [u8], used: usize) -> Turn
 
 // A refusal and two 0s; or 0, where the part starts in its list, its length, and its numbers.
 pub fn point(refusal: u8, start: usize, part: &[f64], out: &mut [u8], used: usize) -> usize {
-    let at = digit(out, used, refusal);
+    let at = put_refusal(out, used, refusal);
     let at = script::put(out, at, b" ");
     let at = script::put_decimal(out, at, start as u64);
     let at = script::put(out, at, b" ");
@@ -170,7 +170,7 @@ pub fn point(refusal: u8, start: usize, part: &[f64], out: &mut [u8], used: usiz
 
 // A refusal, or 0, and a number.
 pub fn value(refusal: u8, x: f64, out: &mut [u8], used: usize) -> usize {
-    let at = digit(out, used, refusal);
+    let at = put_refusal(out, used, refusal);
     let at = script::put_number(out, at, x);
     script::put(out, at, b"\n")
 }

@@ -161,36 +161,36 @@ fn lend(name: Name, filter: Filter, s: &[u8], at: usize, out: &mut [u8], used: u
     answers::buffer(a, script::front(&buffer, len), out, used)
 }
 
-// Four kinds and the place after them; none where one is missing.
+// Four kinds and the place after them; not found where one is missing.
 struct FourKinds {
     found: bool,
     kinds: [Kind; 4],
     next: usize,
 }
 
-fn no_kinds() -> FourKinds {
+fn four_plain(found: bool, next: usize) -> FourKinds {
     let plain = Kind {
         residual: angles::Residual::Plain,
     };
     FourKinds {
-        found: false,
+        found,
         kinds: [plain; 4],
-        next: 0,
+        next,
     }
 }
 
 fn kinds_at(s: &[u8], at: usize) -> FourKinds {
     let KindRead::Told { kind: a, next } = script::kind_at(s, at) else {
-        return no_kinds();
+        return four_plain(false, 0);
     };
     let KindRead::Told { kind: b, next } = script::kind_at(s, next) else {
-        return no_kinds();
+        return four_plain(false, 0);
     };
     let KindRead::Told { kind: c, next } = script::kind_at(s, next) else {
-        return no_kinds();
+        return four_plain(false, 0);
     };
     let KindRead::Told { kind: d, next } = script::kind_at(s, next) else {
-        return no_kinds();
+        return four_plain(false, 0);
     };
     FourKinds {
         found: true,
@@ -199,8 +199,39 @@ fn kinds_at(s: &[u8], at: usize) -> FourKinds {
     }
 }
 
-// closec m LIST(z) LIST(R) KIND KIND KIND KIND LIST(observed)
-fn close_correction(filter: Filter, s: &[u8], at: usize, out: &mut [u8], used: usize) -> Turn {
+// The kinds of a close: a `closef` has none.
+fn kinds_of(name: Name, s: &[u8], at: usize) -> FourKinds {
+    match name {
+        Name::CloseCorrection => kinds_at(s, at),
+        _ => four_plain(true, at),
+    }
+}
+
+// What a close of a correction does.
+fn with_measurement(
+    name: Name,
+    filter: Filter,
+    m: usize,
+    z: &[f64],
+    r: &[f64],
+    kinds: [Kind; 4],
+    observed: &[f64],
+) -> Answer {
+    match name {
+        Name::CloseCorrection => filter.close_correction(m, z, r, kinds, observed),
+        _ => filter.close_correction_flat(m, z, r, observed),
+    }
+}
+
+// closec m LIST(z) LIST(R) KIND KIND KIND KIND LIST(observed), closef m LIST(z) LIST(R) LIST(observed)
+fn close_correction(
+    name: Name,
+    filter: Filter,
+    s: &[u8],
+    at: usize,
+    out: &mut [u8],
+    used: usize,
+) -> Turn {
     let mut z = [0.0f64; 512];
     let mut r = [0.0f64; 512];
     let mut observed = [0.0f64; 512];
@@ -213,7 +244,7 @@ fn close_correction(filter: Filter, s: &[u8], at: usize, out: &mut [u8], used: u
     let ListRead::Numbers { len: of_r, next } = script::list_at(s, next, &mut r) else {
         return answers::bad(filter, out, used);
     };
-    let four = kinds_at(s, next);
+    let four = kinds_of(name, s, next);
     if !four.found {
         return answers::bad(filter, out, used);
     }
@@ -228,7 +259,7 @@ fn close_correction(filter: Filter, s: &[u8], at: usize, out: &mut [u8], used: u
     let observed = script::front(&observed, len);
     let kinds = four.kinds;
     answers::close(
-        filter.close_correction(m as usize, z, r, kinds, observed),
+        with_measurement(name, filter, m as usize, z, r, kinds, observed),
         out,
         used,
     )
@@ -330,7 +361,9 @@ fn code(filter: Filter, s: &[u8], out: &mut [u8], used: usize) -> Turn {
         | Name::ReadQ
         | Name::ReadPoints => lend(name, filter, s, at, out, used),
         Name::ClosePrediction => close_prediction(filter, s, at, out, used),
-        Name::CloseCorrection => close_correction(filter, s, at, out, used),
+        Name::CloseCorrection | Name::CloseCorrectionFlat => {
+            close_correction(name, filter, s, at, out, used)
+        }
         Name::Abandon | Name::ReadParams | Name::ReadStale | Name::Dump => {
             alone(name, filter, s, at, out, used)
         }

@@ -6,4 +6,5 @@ pub mod Pages
 pub mod Runs
 pub mod Same
 pub mod Sizes
+pub mod Tried
 pub mod Widths

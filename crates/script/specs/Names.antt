@@ -5,7 +5,7 @@ use mathlib.Core.List.{List, [], _∷_}
 use Rattle.script.specs.Text.{tokenOf, partOf, sameBytes}
 use Rattle.script.specs.declared.text.Token.{Token}
 use Rattle.script.specs.declared.names.Name.{Name}
-use Rattle.script.specs.declared.names.Name.the-variants.{New, SetX, SetP, SetQ, SetParams, SetKind, OpenPrediction, OpenCorrection, ClosePrediction, CloseCorrection, Abandon, ReadX, ReadP, ReadQ, ReadPoints, ReadParams, ReadStale, Point, Wrap, Root, Dump, Unknown}
+use Rattle.script.specs.declared.names.Name.the-variants.{New, SetX, SetP, SetQ, SetParams, SetKind, OpenPrediction, OpenCorrection, ClosePrediction, CloseCorrection, CloseCorrectionFlat, Abandon, ReadX, ReadP, ReadQ, ReadPoints, ReadParams, ReadStale, Point, Wrap, Root, Dump, Unknown}
 use Rattle.script.specs.declared.names.Call.{Call}
 
 -- a name, in bytes, and its call
@@ -43,6 +43,7 @@ steps =
     record { word = 111 ∷ 112 ∷ 101 ∷ 110 ∷ 99 ∷ []; call = OpenCorrection } ∷  -- openc
     record { word = 99 ∷ 108 ∷ 111 ∷ 115 ∷ 101 ∷ 112 ∷ []; call = ClosePrediction } ∷  -- closep
     record { word = 99 ∷ 108 ∷ 111 ∷ 115 ∷ 101 ∷ 99 ∷ []; call = CloseCorrection } ∷  -- closec
+    record { word = 99 ∷ 108 ∷ 111 ∷ 115 ∷ 101 ∷ 102 ∷ []; call = CloseCorrectionFlat } ∷  -- closef
     record { word = 97 ∷ 98 ∷ 97 ∷ 110 ∷ 100 ∷ 111 ∷ 110 ∷ []; call = Abandon } ∷  -- abandon
     readings
 

@@ -16,6 +16,7 @@ pub enum Name {
     OpenCorrection,
     ClosePrediction,
     CloseCorrection,
+    CloseCorrectionFlat,
     Abandon,
     ReadX,
     ReadP,
@@ -89,6 +90,9 @@ fn step_of(token: &[u8]) -> Name
     }
     if same_bytes(token, b"closec") {
         return Name::CloseCorrection;
+    }
+    if same_bytes(token, b"closef") {
+        return Name::CloseCorrectionFlat;
     }
     if same_bytes(token, b"abandon") {
         return Name::Abandon;

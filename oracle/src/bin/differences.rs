@@ -1,4 +1,4 @@
-//! Runs the published Rust on the smallest inputs that document 01 refuses, and the published wrap beside the exact one.
+//! Runs the published Rust on the smallest inputs that documents 01 and 02 refuse, and the published wrap beside the exact one.
 //! Prints tables in plain text; docs/DIFFERENCES.md is written from them.
 
 use oracle::angles::{wrap_180, wrap_pi};
@@ -6,14 +6,14 @@ use oracle::kinds::{wrap, Kind};
 use oracle::matrix::MatrixDataType;
 use oracle::published::{Held, Measurement, Published};
 use oracle::script::{bits, bits_of};
-use oracle::steps::Params;
+use oracle::steps::{Average, Params};
 
 const C1: Params = Params { alpha: 1.0, beta: 0.0, kappa: 0.0 };
 const INFINITE: f64 = f64::INFINITY;
 const NAN: f64 = f64::NAN;
 
 fn main() {
-    println!("What document 01 refuses, and what the published Rust (over our leaves) gives there.");
+    println!("What documents 01 and 02 refuse, and what the published Rust (over our leaves) gives there.");
     println!("Unless it is said otherwise: C9's filter, n=1, x=2, P=4, Q=1, parameters 1, 0, 0, points propagated unchanged;");
     println!("then C10's correction, z=3, R=12, observed 2, 4, 0. Leaves: the factor stops at the first refused entry and");
     println!("leaves the rest as it stands; the published callers don't look at its answer.\n");
@@ -23,6 +23,8 @@ fn main() {
     parameters();
     pivots();
     ranges();
+    println!("\nThe flat close (request A1): C9's filter again, then z=6, R=10, observed 2, 5, -1.\n");
+    flat();
     println!("\nThe published wrap beside document 01's exact one; bits of both.\n");
     wraps();
 }
@@ -49,11 +51,15 @@ fn unmoved<const N: usize, const COUNT: usize>(mut held: Held<N, COUNT>) -> Held
     held
 }
 
-/// C9, then a correction with these.
+/// A correction of one state by one plain measurement.
+fn correct(held: &mut Held<1, 3>, average: Average, z: f64, r: f64, observed: [f64; 3]) -> String {
+    held.correct(average, &Measurement { m: 1, z: &[z], r: &[r], kinds: &[Kind::Plain], observed: &observed });
+    x_and_p(held)
+}
+
+/// C9, then a weighted correction with these.
 fn corrected(z: f64, r: f64, observed: [f64; 3]) -> String {
-    let mut held = unmoved(c9());
-    held.correct(&Measurement { m: 1, z: &[z], r: &[r], kinds: &[Kind::Plain], observed: &observed });
-    x_and_p(&held)
+    correct(&mut unmoved(c9()), Average::Weighted, z, r, observed)
 }
 
 fn sizes() {
@@ -64,11 +70,12 @@ fn sizes() {
     let nine = unmoved(Held::<9, 19>::new(&[0.0; 9], &identity, &[0.0; 81], C1));
     row("1", "n = 9, x = 0, P = 1 on the diagonal, Q = 0", format!("runs; P[0][0]={:?}", nine.p()[0]));
     let mut held = unmoved(c9());
-    held.correct_of::<0>(&Measurement { m: 0, z: &[], r: &[], kinds: &[], observed: &[] });
+    held.correct_of::<0>(Average::Weighted, &Measurement { m: 0, z: &[], r: &[], kinds: &[], observed: &[] });
     row("1", "m = 0", x_and_p(&held));
     let mut held = unmoved(c9());
     let five: Vec<f64> = (0..25).map(|at| if at % 6 == 0 { 12.0 } else { 0.0 }).collect();
-    held.correct_of::<5>(&Measurement { m: 5, z: &[3.0; 5], r: &five, kinds: &[Kind::Plain; 5], observed: &[0.0; 15] });
+    let measurement = Measurement { m: 5, z: &[3.0; 5], r: &five, kinds: &[Kind::Plain; 5], observed: &[0.0; 15] };
+    held.correct_of::<5>(Average::Weighted, &measurement);
     row("1", "m = 5, z = 3, R = 12 on the diagonal, zeros observed", format!("runs; {}", x_and_p(&held)));
     let odd = unmoved(Held::<1, 5>::new(&[2.0], &[4.0], &[1.0], C1));
     row("1", "five points for one state (the type takes any count)", format!("{}, points {:?}", x_and_p(&odd), odd.points()));
@@ -79,7 +86,7 @@ fn stages() {
     row("3", "a setter, an open or a close at the wrong time", "closures: there is nothing to open".into());
     row("4", "points read before any prediction", format!("points {:?}", c9().points()));
     let mut held = unmoved(c9());
-    held.correct(&Measurement { m: 1, z: &[3.0], r: &[12.0], kinds: &[Kind::Plain], observed: &[2.0, 4.0, 0.0] });
+    correct(&mut held, Average::Weighted, 3.0, 12.0, [2.0, 4.0, 0.0]);
     row("4", "points read after C10 (x is 2.25 by then)", format!("points {:?}", held.points()));
 }
 
@@ -119,8 +126,7 @@ fn ranges() {
     let mut held = c9();
     held.predict(&[0.0, 1.0e200, -1.0e200]);
     row("9", "propagated 0, 1e200, -1e200: P overflows", x_and_p(&held));
-    held.correct(&Measurement { m: 1, z: &[3.0], r: &[12.0], kinds: &[Kind::Plain], observed: &[2.0, 4.0, 0.0] });
-    row("9", "  and after C10's correction", x_and_p(&held));
+    row("9", "  and after C10's correction", correct(&mut held, Average::Weighted, 3.0, 12.0, [2.0, 4.0, 0.0]));
     held.predict_by(|_| {});
     row("9", "  and after one more prediction", x_and_p(&held));
     let mut held = c9();
@@ -129,6 +135,32 @@ fn ranges() {
     row("9", "observed 0, 1e200, -1e200: S overflows; x and P left, silently", corrected(3.0, 12.0, [0.0, 1.0e200, -1.0e200]));
     row("9", "S = 1e-310 (R), observed 2, 2, 2: the inverse overflows", corrected(3.0, 1.0e-310, [2.0, 2.0, 2.0]));
     row("9", "z = 1.5e308, observed -1.5e308 thrice: y overflows", corrected(1.5e308, 12.0, [-1.5e308; 3]));
+}
+
+/// What request A1 refuses: a turn above all, and the steps' own numbers.
+fn flat() {
+    let corrected = |z: f64, r: f64, observed: [f64; 3]| correct(&mut unmoved(c9()), Average::Flat, z, r, observed);
+    row("", "nothing refused", corrected(6.0, 10.0, [2.0, 5.0, -1.0]));
+    // C12's heading and points, the heading itself observed and met: a correction that has nothing to correct.
+    let heading = [179.0, -171.0, 169.0];
+    let turned = || {
+        let mut held = c9();
+        held.set_kinds(&[Kind::Turn(180.0)]);
+        held.predict(&heading);
+        held
+    };
+    row("10", "C12's turn of 180, not corrected yet", x_and_p(&turned()));
+    row("10", "  the heading observed, z = 179, R = 12: averaged as if plain", correct(&mut turned(), Average::Flat, 179.0, 12.0, heading));
+    let mut held = turned();
+    held.correct(Average::Weighted, &Measurement { m: 1, z: &[179.0], r: &[12.0], kinds: &[Kind::Turn(180.0)], observed: &heading });
+    row("", "  the weighted close, measured by a turn of 180 too", x_and_p(&held));
+    row("8", "S = 0: R = 0, observed 2, 2, 2", corrected(6.0, 0.0, [2.0, 2.0, 2.0]));
+    row("8", "S = -4: R = -10: used as if S were 16", corrected(6.0, -10.0, [2.0, 5.0, -1.0]));
+    row("9", "observed 1e308 thrice: the sum for z mean overflows", corrected(6.0, 10.0, [1.0e308; 3]));
+    row("9", "observed 0, 1e200, -1e200: S overflows; x and P left, silently", corrected(6.0, 10.0, [0.0, 1.0e200, -1.0e200]));
+    let mut held = c9();
+    held.predict(&[1.0e308; 3]);
+    row("9", "propagated 1e308 thrice: the sum for x mean overflows", correct(&mut held, Average::Flat, 6.0, 10.0, [2.0, 5.0, -1.0]));
 }
 
 fn wraps() {

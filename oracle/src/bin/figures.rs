@@ -5,10 +5,10 @@ use std::fs;
 use std::path::{Path, PathBuf};
 use std::process::ExitCode;
 
-use oracle::coverage::{count, count_with, holes, NUMBERS, STEPS};
+use oracle::coverage::{count, count_with, holes, CORRECTIONS, NUMBERS, STEPS};
 use oracle::script::{Reader, Table, BAD};
 
-const NAMES: [&str; 10] = ["accepted", "SIZE", "SHORT", "STAGE", "STALE", "NUMBER", "PARAM", "PIVOT", "INNOV", "RANGE"];
+const NAMES: [&str; 11] = ["accepted", "SIZE", "SHORT", "STAGE", "STALE", "NUMBER", "PARAM", "PIVOT", "INNOV", "RANGE", "KIND"];
 
 /// How many differing answers are shown.
 const SHOWN: u64 = 5;
@@ -98,31 +98,34 @@ impl Figures {
         let total = |number: u8| NUMBERS.iter().map(|(call, _)| count(&self.table, call, number)).sum::<u64>();
         println!("calls             {:>10}", self.calls);
         for (number, name) in NAMES.iter().enumerate() {
-            println!("  {number} {name:<12}  {:>10}", total(number as u8));
+            println!("  {number:<2} {name:<12} {:>10}", total(number as u8));
         }
         println!("  no call (bad)   {:>10}", count(&self.table, "bad", BAD));
         println!("answers compared  {:>10}", self.compared);
         println!("numbers compared  {:>10}", self.numbers);
         println!("differences       {:>10}", self.differences);
 
-        println!("\n{:<10}{}", "call", (0..10).map(|number| format!("{number:>7}")).collect::<String>());
+        let columns = 0..NAMES.len() as u8;
+        println!("\n{:<10}{}", "call", columns.clone().map(|number| format!("{number:>7}")).collect::<String>());
         for (call, numbers) in NUMBERS {
             let cell = |number: u8| if numbers.contains(&number) { count(&self.table, call, number).to_string() } else { ".".into() };
-            println!("{call:<10}{}", (0..10).map(|number| format!("{:>7}", cell(number))).collect::<String>());
+            println!("{call:<10}{}", columns.clone().map(|number| format!("{:>7}", cell(number))).collect::<String>());
         }
-        println!("\nwhere the steps stopped");
+        println!("\nwhere calls stopped");
         for (call, steps) in STEPS {
             for (number, step) in steps {
                 println!("{call:<10}{number}  {step:<18}{:>7}", count_with(&self.table, call, *number, step));
             }
         }
-        println!("\naccepted closes   {}", (1..=8).map(|n| format!("{:>7}", format!("n={n}"))).collect::<String>());
+        println!("\naccepted closes       {}", (1..=8).map(|n| format!("{:>7}", format!("n={n}"))).collect::<String>());
         let line = |name: &str, cell: &dyn Fn(usize) -> u64| {
-            println!("{name:<18}{}", (1..=8).map(|n| format!("{:>7}", cell(n))).collect::<String>())
+            println!("{name:<22}{}", (1..=8).map(|n| format!("{:>7}", cell(n))).collect::<String>())
         };
         line("prediction", &|n| count_with(&self.table, "closep", 0, &format!("n={n}")));
-        for m in 1..=4 {
-            line(&format!("correction, m={m}"), &|n| count_with(&self.table, "closec", 0, &format!("n={n} m={m}")));
+        for (call, name) in CORRECTIONS {
+            for m in 1..=4 {
+                line(&format!("{name}, m={m}"), &|n| count_with(&self.table, call, 0, &format!("n={n} m={m}")));
+            }
         }
         let holes = holes(&self.table);
         println!("\nnot met           {}", if holes.is_empty() { "nothing".to_string() } else { holes.join("; ") });

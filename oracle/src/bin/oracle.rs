@@ -1,5 +1,5 @@
-//! Reads a script on standard input and writes its answers, as the published Rust and document 01's refusals give them.
-//! With --table, what was met goes to standard error at the end: count, call, number, and the step or the sizes.
+//! Reads a script on standard input and writes its answers, as the published Rust and the refusals of documents 01 and 02 give them.
+//! With --table, what was met goes to standard error at the end: count, call, number, and the stage, the step or the sizes.
 
 use std::io::{self, BufRead, Write};
 use std::process::ExitCode;

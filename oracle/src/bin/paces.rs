@@ -4,7 +4,7 @@
 
 use oracle::kinds::Kind;
 use oracle::published::{self, Measurement};
-use oracle::steps::Params;
+use oracle::steps::{Average, Params};
 
 /// Numbers from 0 to 15 in a fixed disorder.
 fn numbers(step: u64) -> Vec<f64> {
@@ -33,7 +33,7 @@ fn run(n: usize, m: usize, rounds: u64) {
     let kinds = vec![Kind::Plain; m];
     for _ in 0..rounds {
         filter.predict(&propagated[..count]);
-        filter.correct(&Measurement { m, z: &observed[..m], r: &r, kinds: &kinds, observed: &observed[..seen] });
+        filter.correct(Average::Weighted, &Measurement { m, z: &observed[..m], r: &r, kinds: &kinds, observed: &observed[..seen] });
     }
     for x in filter.x() {
         println!("{:016x}", x.to_bits());

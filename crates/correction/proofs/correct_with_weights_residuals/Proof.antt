@@ -1,299 +1,59 @@
--- `correct_with_weights_residuals` meets its contract: at each test, what is left of the plan comes to the whole outcome. Assumes nothing.
-use Prim.Native.Nat.{_+_, _*_}
-use mathlib.Core.Path.{_≡_, sym, ap, ap₂, _∙_}
-use mathlib.Core.List.{List}
+-- `correct_with_weights_residuals` meets its contract: what each callee has made stands in the head, and the shared steps do the rest. Assumes nothing.
+use mathlib.Core.Path.{_≡_, refl}
 use borrow.Author.Needs.{needs}
 use native.Mathlib.Omega.{arith}
-use lib.Ieee.{Float, binary64}
-use Rattle.floats.specs.Refusal.{Outcome}
-use Rattle.floats.specs.Numbers.{zeros}
-use Rattle.matrix.specs.declared.factor.Factor.{Factor}
-use Rattle.matrix.proofs.Results.{begin, after-goes, after-stops, ends, refused-as}
-use Rattle.sigma.specs.Spread.{spreadOf}
-use Rattle.sigma.specs.Predict.{Moment, moments, unmade}
+use lib.Ieee.{binary64}
 use Rattle.sigma.proofs.Flat.{cells-in}
-use Rattle.sigma.proofs.Plans.{Reached, Tested, tested, passes, fails}
 use Rattle.correction.specs.Leaves.{widened}
-use Rattle.correction.specs.Correct.{Given, given, dzOf, correctOf}
+use Rattle.correction.specs.Correct.{Head, given, weightedHead}
+use Rattle.correction.proofs.Entries.{from-head}
 use Rattle.correction.proofs.correct_with_weights_residuals.Statement.{statement}
 use Rattle.correction.proofs.correct_with_weights_residuals.Tie as tie
 
--- what the call is given, and what it comes to
-abbrev inputs : tie.Start → Given
-inputs c =
-    given (c .args .n) (c .args .m) (c .args .x .now) (c .args .p .now) (c .args .points .now) (c .args .observed .now) (c .args .w0m) (c .args .w .now) (c .args .z .now) (c .args .r .now)
-    (c .args .kinds) (widened (c .args .measured))
-
-abbrev whole : tie.After-widened → Outcome Moment
-whole c = correctOf binary64 (inputs (c .before))
-
--- For each test: where the kinds were laid out before it, the result that it tests, and what is left of the plan past it.
-
--- z mean
-abbrev from1 : tie.After-all-finite → tie.After-widened
-from1 c = c .before .before .before
-
-abbrev test1 : (c : tie.After-all-finite) → Tested (whole (from1 c)) (c .all-finite .result)
-test1 c = let g = inputs (from1 c .before) in tested (g .m) begin (rw (← from1 c .widened .ensures) (c .before .before .anchored-mean .ensures)) (c .all-finite .ensures)
-
-abbrev past1 : (c : tie.Else1) → Reached (whole (from1 (c .before)))
-past1 c = passes (test1 (c .before)) (c .if1 .left)
-
--- S
-abbrev back2 : tie.After-all-finite2 → tie.Else1
-back2 c = c .before .before .before .before .before .before .before .before .before
-
-abbrev from2 : tie.After-all-finite2 → tie.After-widened
-from2 c = from1 (back2 c .before)
-
-dz-made : (c : tie.After-all-finite2) → c .before .before .before .before .before .before .before .deviations .result ≡ dzOf binary64 (inputs (from2 c .before)) (c .before .before .before .before .before .before .before .before .before .before .before .before .anchored-mean .result)
-dz-made c = rw (← from2 c .widened .ensures) (c .before .before .before .before .before .before .before .deviations .ensures)
-
-abbrev test2 : (c : tie.After-all-finite2) → Tested (whole (from2 c)) (c .all-finite2 .result)
-test2 c = let g = inputs (from2 c .before) in tested (g .m * g .m) (past1 (back2 c) .comes) (rw (← dz-made c, ← c .before .before .before .before .spread .ensures) (c .before .before .plus .ensures)) (c .all-finite2 .ensures)
-
-abbrev past2 : (c : tie.Else2) → Reached (whole (from2 (c .before)))
-past2 c = passes (test2 (c .before)) (c .if2 .left)
-
--- x mean
-abbrev back3 : tie.After-all-finite3 → tie.Else2
-back3 c = c .before .before .before
-
-abbrev from3 : tie.After-all-finite3 → tie.After-widened
-from3 c = from2 (back3 c .before)
-
-abbrev test3 : (c : tie.After-all-finite3) → Tested (whole (from3 c)) (c .all-finite3 .result)
-test3 c = let g = inputs (from3 c .before) in tested (g .n) (past2 (back3 c) .comes) (c .before .before .anchored-mean2 .ensures) (c .all-finite3 .ensures)
-
-abbrev past3 : (c : tie.Else3) → Reached (whole (from3 (c .before)))
-past3 c = passes (test3 (c .before)) (c .if3 .left)
-
--- C
-abbrev back4 : tie.After-all-finite4 → tie.Else3
-back4 c = c .before .before .before .before .before .before .before
-
-abbrev from4 : tie.After-all-finite4 → tie.After-widened
-from4 c = from3 (back4 c .before)
-
-abbrev test4 : (c : tie.After-all-finite4) → Tested (whole (from4 c)) (c .all-finite4 .result)
-test4 c = let g = inputs (from4 c .before) in tested (g .n * g .m) (past3 (back4 c) .comes) (c .before .before .spread2 .ensures ∙ ap₂ (λ (a b : List Float). spreadOf binary64 a (g .n) b (g .m) (g .w) (g .n + g .n)) (c .before .before .before .before .before .deviations2 .ensures) (dz-made (back3 (back4 c .before) .before))) (c .all-finite4 .ensures)
-
-abbrev past4 : (c : tie.Else4) → Reached (whole (from4 (c .before)))
-past4 c = passes (test4 (c .before)) (c .if4 .left)
-
--- S's factor
-abbrev back5 : tie.After-cholesky-decompose-lower → tie.Else4
-back5 c = c .before .before
-
-abbrev from5 : tie.After-cholesky-decompose-lower → tie.After-widened
-from5 c = from4 (back5 c .before)
-
-abbrev past5 : (c : tie.Else5) → Reached (whole (from5 (c .before)))
-past5 d =
-    let c = d .before in
-    let e = c .cholesky-decompose-lower .ensures in
-    record { plan = _; comes = after-goes (past4 (back5 c) .comes) (ap (λ (f : Factor). f .refusal) e) (zeros 64) (ap (λ (f : Factor). f .l) e) (d .if5 .left) }
-
--- its inverse
-abbrev back6 : tie.After-all-finite5 → tie.Else5
-back6 c = c .before .before .before .before .before
-
-abbrev from6 : tie.After-all-finite5 → tie.After-widened
-from6 c = from5 (back6 c .before)
-
-abbrev test6 : (c : tie.After-all-finite5) → Tested (whole (from6 c)) (c .all-finite5 .result)
-test6 c = let g = inputs (from6 c .before) in tested (g .m * g .m) (past5 (back6 c) .comes) (c .before .before .invert-l-cholesky .ensures) (c .all-finite5 .ensures)
-
-abbrev past6 : (c : tie.Else6) → Reached (whole (from6 (c .before)))
-past6 c = passes (test6 (c .before)) (c .if6 .left)
-
--- the gain
-abbrev back7 : tie.After-all-finite6 → tie.Else6
-back7 c = c .before .before .before .before .before
-
-abbrev from7 : tie.After-all-finite6 → tie.After-widened
-from7 c = from6 (back7 c .before)
-
-abbrev test7 : (c : tie.After-all-finite6) → Tested (whole (from7 c)) (c .all-finite6 .result)
-test7 c = let g = inputs (from7 c .before) in tested (g .n * g .m) (past6 (back7 c) .comes) (c .before .before .mult-transb .ensures) (c .all-finite6 .ensures)
-
-abbrev past7 : (c : tie.Else7) → Reached (whole (from7 (c .before)))
-past7 c = passes (test7 (c .before)) (c .if7 .left)
-
--- y
-abbrev back8 : tie.After-all-finite7 → tie.Else7
-back8 c = c .before .before .before .before
-
-abbrev from8 : tie.After-all-finite7 → tie.After-widened
-from8 c = from7 (back8 c .before)
-
-abbrev test8 : (c : tie.After-all-finite7) → Tested (whole (from8 c)) (c .all-finite7 .result)
-test8 c = let g = inputs (from8 c .before) in tested (g .m) (past7 (back8 c) .comes) (rw (← from8 c .widened .ensures) (c .before .before .innovation .ensures)) (c .all-finite7 .ensures)
-
-abbrev past8 : (c : tie.Else8) → Reached (whole (from8 (c .before)))
-past8 c = passes (test8 (c .before)) (c .if8 .left)
-
--- x
-abbrev back9 : tie.After-all-finite8 → tie.Else8
-back9 c = c .before .before .before .before .before
-
-abbrev from9 : tie.After-all-finite8 → tie.After-widened
-from9 c = from8 (back9 c .before)
-
-abbrev test9 : (c : tie.After-all-finite8) → Tested (whole (from9 c)) (c .all-finite8 .result)
-test9 c = let g = inputs (from9 c .before) in tested (g .n) (past8 (back9 c) .comes) (c .before .before .shifted .ensures) (c .all-finite8 .ensures)
-
-abbrev past9 : (c : tie.Else9) → Reached (whole (from9 (c .before)))
-past9 c = passes (test9 (c .before)) (c .if9 .left)
-
--- P
-abbrev back10 : tie.After-all-finite9 → tie.Else9
-back10 c = c .before .before .before .before .before .before .before
-
-abbrev from10 : tie.After-all-finite9 → tie.After-widened
-from10 c = from9 (back10 c .before)
-
-abbrev test10 : (c : tie.After-all-finite9) → Tested (whole (from10 c)) (c .all-finite9 .result)
-test10 c = let g = inputs (from10 c .before) in tested (g .n * g .n) (past9 (back10 c) .comes) (rw (← c .before .before .before .before .mult-transb2 .ensures) (c .before .before .minus .ensures)) (c .all-finite9 .ensures)
-
--- ---- the answers
-
-returns : tie.Need-returns
-returns c = refused-as moments (c .refuse .ensures) (fails (test1 (c .before .before)) (c .before .if1 .taken))
-
-returns-2 : tie.Need-returns-2
-returns-2 c = refused-as moments (c .refuse2 .ensures) (fails (test2 (c .before .before)) (c .before .if2 .taken))
-
-returns-3 : tie.Need-returns-3
-returns-3 c = refused-as moments (c .refuse3 .ensures) (fails (test3 (c .before .before)) (c .before .if3 .taken))
-
-returns-4 : tie.Need-returns-4
-returns-4 c = refused-as moments (c .refuse4 .ensures) (fails (test4 (c .before .before)) (c .before .if4 .taken))
-
-returns-5 : tie.Need-returns-5
-returns-5 c =
-    let at = c .before .before in
-    let s = after-stops (past4 (back5 at) .comes) (ap (λ (f : Factor). f .refusal) (at .cholesky-decompose-lower .ensures)) (c .before .if5 .taken) in
-    c .refuse5 .ensures ∙ ap unmade (s .2) ∙ ap moments (sym (s .1))
-
-returns-6 : tie.Need-returns-6
-returns-6 c = refused-as moments (c .refuse6 .ensures) (fails (test6 (c .before .before)) (c .before .if6 .taken))
-
-returns-7 : tie.Need-returns-7
-returns-7 c = refused-as moments (c .refuse7 .ensures) (fails (test7 (c .before .before)) (c .before .if7 .taken))
-
-returns-8 : tie.Need-returns-8
-returns-8 c = refused-as moments (c .refuse8 .ensures) (fails (test8 (c .before .before)) (c .before .if8 .taken))
-
-returns-9 : tie.Need-returns-9
-returns-9 c = refused-as moments (c .refuse9 .ensures) (fails (test9 (c .before .before)) (c .before .if9 .taken))
-
-returns-10 : tie.Need-returns-10
-returns-10 c = refused-as moments (c .refuse10 .ensures) (fails (test10 (c .before .before)) (c .before .if10 .taken))
-
-returns-11 : tie.Need-returns-11
-returns-11 c = ap moments (sym (ends (passes (test10 (c .before)) (c .if10 .left) .comes)))
-
--- ---- what the callees ask
-
-mul-mm : tie.Need-mul-mm
-mul-mm c = let a = c .args in omega (arith, cells-in (a .m) (a .m) (omega arith) (omega arith))
-
-mul-nm : tie.Need-mul-nm
-mul-nm c = let a = c .args in omega (arith, cells-in (a .n) (a .m) (omega arith) (omega arith))
-
-mul-nn : tie.Need-mul-nn
-mul-nn c = let a = c .args in omega (arith, cells-in (a .n) (a .n) (omega arith) (omega arith))
+mul-plus : tie.Need-mul-plus
+mul-plus c = let a = c .before .before .before .before .before .before .before .args in omega (arith, cells-in (a .m) (a .m) (omega arith) (omega arith))
 
 plus-requires : tie.Need-plus-requires
-plus-requires c κs = let at = from1 (c .before .before .before .before .before .before .before) .before in cells-in (at .args .m) (at .args .m) (omega arith) (omega arith)
+plus-requires c κs = let a = c .before .before .before .before .before .before .before .before .args in cells-in (a .m) (a .m) (omega arith) (omega arith)
 
-deviations-requires-2 : tie.Need-deviations-requires-2
-deviations-requires-2 c κs = let pre = from3 (c .before .before) .before .pre in (omega arith, omega arith)
+apply-correction-requires : tie.Need-apply-correction-requires
+apply-correction-requires c κs = c .before .before .before .before .before .before .before .before .before .before .before .before .before .before .before .before .before .before .before .pre
 
-spread-requires-2 : tie.Need-spread-requires-2
-spread-requires-2 c κs = let pre = from3 (c .before .before .before .before .before) .before .pre in (omega arith, (omega arith, omega arith))
-
-cholesky-decompose-lower-requires : tie.Need-cholesky-decompose-lower-requires
-cholesky-decompose-lower-requires c κs = let pre = from4 (c .before .before) .before .pre in omega arith
-
-invert-l-cholesky-requires : tie.Need-invert-l-cholesky-requires
-invert-l-cholesky-requires c κs = let pre = from5 (c .before .before .before) .before .pre in omega arith
-
-mult-transb-requires : tie.Need-mult-transb-requires
-mult-transb-requires c κs = let pre = from6 (c .before .before .before) .before .pre in (omega arith, omega arith, omega arith)
-
-innovation-requires : tie.Need-innovation-requires
-innovation-requires c κs = let pre = from7 (c .before .before) .before .pre in omega arith
-
-shifted-requires : tie.Need-shifted-requires
-shifted-requires c κs = let pre = from8 (c .before .before .before) .before .pre in (omega arith, omega arith)
-
-mult-transb-requires-2 : tie.Need-mult-transb-requires-2
-mult-transb-requires-2 c κs = let pre = from9 (c .before .before .before) .before .pre in (omega arith, omega arith, omega arith)
-
-minus-requires : tie.Need-minus-requires
-minus-requires c κs = let at = from9 (c .before .before .before .before .before) .before in cells-in (at .args .n) (at .args .n) (omega arith) (omega arith)
+returns : tie.Need-returns
+returns c =
+    let x = c .before .before .before .before .before in
+    let p = x .before .before .before .before .before .before in
+    let z = p .before .before .before .before .before in
+    let y = z .before .before in
+    let a = y .before .before .args in
+    let wide = y .before .widened .result in
+    let made : Head = record { n = a .n; m = a .m; x = a .x .now; p = a .p .now; z = a .z .now; measured = wide; zm = y .anchored-mean .result; s = p .plus .result; xm = x .before .before .before .before .before .anchored-mean2 .result; c = x .spread2 .result } in
+    let is : made ≡ weightedHead binary64 (given (a .n) (a .m) (a .x .now) (a .p .now) (a .points .now) (a .observed .now) (a .w0m) (a .w .now) (a .z .now) (a .r .now) (a .kinds) (widened (a .measured))) =
+    rw (
+      ← y .before .widened .ensures,
+      ← y .anchored-mean .ensures,
+      ← z .deviations .ensures,
+      ← p .before .before .spread .ensures,
+      ← p .plus .ensures,
+      ← x .before .before .before .before .before .anchored-mean2 .ensures,
+      ← x .before .before .before .deviations2 .ensures,
+      ← x .spread2 .ensures,
+    ) refl in
+    from-head binary64 made (c .apply-correction .ensures) is
 
 pub correct-with-weights-residuals-spec : {M : Type 1} → statement M
 correct-with-weights-residuals-spec =
     tie.close
     (tie.spec
     (λ c. search needs)
-    mul-mm
-    mul-nm
-    mul-nn
     (λ c κs. search needs)
     (λ c κs. search needs)
-    (λ c. search needs)
     (λ c κs. search needs)
     (λ c κs. search needs)
-    returns
-    (λ c κs. search needs)
-    (λ c κs. search needs)
+    mul-plus
     plus-requires
-    (λ c. search needs)
     (λ c κs. search needs)
     (λ c κs. search needs)
-    returns-2
     (λ c κs. search needs)
-    (λ c. search needs)
-    (λ c κs. search needs)
-    (λ c κs. search needs)
-    returns-3
-    deviations-requires-2
-    spread-requires-2
-    (λ c. search needs)
-    (λ c κs. search needs)
-    (λ c κs. search needs)
-    returns-4
-    cholesky-decompose-lower-requires
-    (λ c κs. search needs)
-    returns-5
-    invert-l-cholesky-requires
-    (λ c. search needs)
-    (λ c κs. search needs)
-    (λ c κs. search needs)
-    returns-6
-    mult-transb-requires
-    (λ c. search needs)
-    (λ c κs. search needs)
-    (λ c κs. search needs)
-    returns-7
-    innovation-requires
-    (λ c. search needs)
-    (λ c κs. search needs)
-    (λ c κs. search needs)
-    returns-8
-    shifted-requires
-    (λ c. search needs)
-    (λ c κs. search needs)
-    (λ c κs. search needs)
-    returns-9
-    mult-transb-requires-2
-    minus-requires
-    (λ c. search needs)
-    (λ c κs. search needs)
-    (λ c κs. search needs)
-    returns-10
-    returns-11)
+    apply-correction-requires
+    returns)

@@ -1,9 +1,9 @@
-//! Calls that are refused on their face (1 to 6), lines that are no calls, and calls by pure chance.
+//! Calls that are refused on their face (1 to 6 and 10), lines that are no calls, and calls by pure chance.
 
 use oracle::filter::{list_length, Open};
 use oracle::kinds::Kind;
 use oracle::script::LINE;
-use oracle::steps::Params;
+use oracle::steps::{Average, Params};
 
 use crate::maker::{float, kind, params, written, Fault, Made, Maker};
 
@@ -90,26 +90,28 @@ impl Maker {
         self.after_refusal()
     }
 
+    /// Faults in either close; on a filter with a turn the flat one has that fault besides.
     pub fn faulty_close_correction(&mut self, z: &[f64], r: &[f64], measured: &[Kind], observed: &[f64]) -> Made<()> {
-        let m = z.len();
-        let f = self.faults(10);
+        let (m, average) = (z.len(), self.average());
+        // The last two are faults of measurement kinds, which the flat close hasn't.
+        let f = self.faults(if average == Average::Flat { 8 } else { 10 });
         let mut measured = measured.to_vec();
-        if f[7] {
+        if f.get(8) == Some(&true) {
             measured[self.random.below(m)] = Kind::Turn(self.random.failing_half_turn());
         }
-        if f[8] {
+        if f.get(9) == Some(&true) {
             measured[self.random.below(m)] = Kind::Turn(self.random.not_finite());
         }
         let size = if f[0] { self.no_size(4) } else { m as u64 };
         let (fz, fr, fo) = (self.fault(f[1], f[4]), self.fault(f[2], f[5]), self.fault(f[3], f[6]));
         let mut r = r.to_vec();
-        if f[9] {
+        if f[7] {
             // A pivot that isn't above 0: first or last of the refusals.
             let at = self.random.below(m);
             r[at * m + at] = -f64::MAX;
         }
-        let kinds = self.four_kinds(&measured);
-        let line = format!("closec {size} {} {} {kinds} {}", self.list(z, fz), self.list(&r, fr), self.list(observed, fo));
+        let lists = [self.list(z, fz), self.list(&r, fr), self.list(observed, fo)];
+        let line = self.correction_line(average, size, lists, &measured);
         self.say(line)?;
         self.after_refusal()
     }
@@ -153,11 +155,17 @@ impl Maker {
         let line = if self.reader.filter.open == Open::Correction || self.random.chance(50) {
             format!("closep {}", self.list(&list, fault))
         } else {
-            let m = self.random.pick(&[0, 1, 1, 5, u64::MAX]);
-            format!("closec {m} {} {} p p p p {}", self.list(&[1.0], fault), self.list(&[1.0], Fault::None), self.list(&list, fault))
+            let (average, m) = (self.either(), self.random.pick(&[0, 1, 1, 5, u64::MAX]));
+            let lists = [self.list(&[1.0], fault), self.list(&[1.0], Fault::None), self.list(&list, fault)];
+            self.correction_line(average, m, lists, &[])
         };
         self.say(line)?;
         Ok(())
+    }
+
+    /// Either close of a correction, whatever the filter.
+    pub fn either(&mut self) -> Average {
+        self.random.pick(&[Average::Weighted, Average::Flat])
     }
 
     /// Closes and abandons with nothing open.
@@ -229,7 +237,7 @@ impl Maker {
     /// A line that is no call; as a rule. What it is answered, the reader decides.
     pub fn bad(&mut self) -> Made<()> {
         let whole = format!("setx {}", written(&self.random.vector(3, 1.0)));
-        let line: Vec<u8> = match self.random.below(24) {
+        let line: Vec<u8> = match self.random.below(27) {
             0 => whole[..whole.len() - 1].into(),
             1 => format!("{whole}0").into(),
             2 => format!("{whole} {}", float(1.0)).into(),
@@ -244,15 +252,18 @@ impl Maker {
             11 => b"readx 18446744073709551616".to_vec(),
             12 => b"closec 1 0 0 p p p 0".to_vec(),
             13 => b"closec 1 0 0 p p q p 0".to_vec(),
-            14 => b"setkind 0 t".to_vec(),
-            15 => b"dump 1".to_vec(),
-            16 => b"root \xff\x00".to_vec(),
-            17 => format!("point 1 0 513{}", " 3ff0000000000000".repeat(513)).into(),
-            18 => format!("new {}", "9".repeat(30)).into(),
+            14 => b"closef 1 0 0".to_vec(),
+            15 => b"closef 1 0 0 p p p p 0".to_vec(),
+            16 => b"closef 1 0 0 0 0".to_vec(),
+            17 => b"setkind 0 t".to_vec(),
+            18 => b"dump 1".to_vec(),
+            19 => b"root \xff\x00".to_vec(),
+            20 => format!("point 1 0 513{}", " 3ff0000000000000".repeat(513)).into(),
+            21 => format!("new {}", "9".repeat(30)).into(),
             // Taken all the same: tabs, blanks around, upper case, zeros in front, a comment behind.
-            19 => whole.replace(' ', "\t ").into(),
-            20 => format!("  {}  # {whole}", whole.to_uppercase().replace("SETX", "setx")).into(),
-            21 => whole.replace("setx 3", "setx 003").into(),
+            22 => whole.replace(' ', "\t ").into(),
+            23 => format!("  {}  # {whole}", whole.to_uppercase().replace("SETX", "setx")).into(),
+            24 => whole.replace("setx 3", "setx 003").into(),
             _ => {
                 // Exactly as long as a line may be, or one longer.
                 let extra = self.random.below(2);
@@ -286,9 +297,9 @@ impl Maker {
             7 => format!("openc {}", self.length(list_length(n))),
             8..=9 => format!("closep {}", self.any_list(list_length(n))),
             10..=12 => {
-                let m = 1 + self.random.below(4);
-                let kinds = self.four_kinds(&[]);
-                format!("closec {m} {} {} {kinds} {}", self.any_list(m), self.any_list(m * m), self.any_list(m * (2 * n + 1)))
+                let (average, m) = (self.either(), 1 + self.random.below(4));
+                let lists = [m, m * m, m * (2 * n + 1)].map(|length| self.any_list(length));
+                self.correction_line(average, m as u64, lists, &[])
             }
             13 => "dump".into(),
             14 => return self.value(),

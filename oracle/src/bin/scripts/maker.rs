@@ -3,10 +3,11 @@
 use std::convert::Infallible;
 use std::io::{self, BufWriter, Stdout, Write};
 
+use oracle::coverage::count_with;
 use oracle::filter::list_length;
 use oracle::kinds::Kind;
 use oracle::script::{bits, Reader, BAD};
-use oracle::steps::Params;
+use oracle::steps::{Average, Params};
 
 use crate::numbers::Random;
 
@@ -24,6 +25,8 @@ pub struct Maker {
     out: BufWriter<Stdout>,
     left: u64,
     episodes: u64,
+    /// How often `overflow` has aimed at a step.
+    pub aims: u64,
 }
 
 /// What is wrong with a lent list, if anything.
@@ -36,7 +39,14 @@ pub enum Fault {
 
 impl Maker {
     pub fn new(seed: u64, calls: u64) -> Self {
-        Maker { random: Random::new(seed), reader: Reader::default(), out: BufWriter::new(io::stdout()), left: calls, episodes: seed }
+        Maker {
+            random: Random::new(seed),
+            reader: Reader::default(),
+            out: BufWriter::new(io::stdout()),
+            left: calls,
+            episodes: seed,
+            aims: seed,
+        }
     }
 
     /// Writes episodes until there are enough calls.
@@ -48,10 +58,10 @@ impl Maker {
             // Every size in turn, so that a short script meets them all.
             let n = 1 + (self.episodes % 8) as usize;
             self.episodes += 1;
-            match self.random.below(10) {
+            match self.random.below(11) {
                 0 => self.refused_new(n)?,
                 1..=2 => self.wild(n)?,
-                3..=5 => self.overflow(n)?,
+                3..=6 => self.overflow(n)?,
                 _ => self.episode(n)?,
             }
         }
@@ -146,27 +156,62 @@ impl Maker {
         self.say(line)
     }
 
-    /// A close of a correction with m measurements; kinds from m up are junk.
-    pub fn close_correction(&mut self, z: &[f64], r: &[f64], measured: &[Kind], observed: &[f64]) -> Made<u8> {
-        let kinds = self.four_kinds(measured);
-        let line = format!(
-            "closec {} {} {} {kinds} {}",
-            z.len(),
-            self.list(z, Fault::None),
-            self.list(r, Fault::None),
-            self.list(observed, Fault::None)
-        );
+    /// A close of a correction with m measurements, by either average.
+    pub fn close_correction(&mut self, average: Average, z: &[f64], r: &[f64], measured: &[Kind], observed: &[f64]) -> Made<u8> {
+        let lists = [z, r, observed].map(|list| self.list(list, Fault::None));
+        let line = self.correction_line(average, z.len() as u64, lists, measured);
         self.say(line)
     }
 
+    /// The line of either close of a correction; of kinds, those from m up are junk, and the flat close has none.
+    pub fn correction_line(&mut self, average: Average, m: u64, [z, r, observed]: [String; 3], measured: &[Kind]) -> String {
+        let name = close_of(average);
+        match average {
+            Average::Weighted => format!("{name} {m} {z} {r} {} {observed}", self.four_kinds(measured)),
+            Average::Flat => format!("{name} {m} {z} {r} {observed}"),
+        }
+    }
+
+    /// How many measurements: any number, or the one that this close was least often accepted with, so that a short script meets them all.
+    pub fn measurements(&mut self, average: Average) -> usize {
+        let any = 1 + self.random.below(4);
+        if self.random.chance(50) {
+            return any;
+        }
+        let met = |m: &usize| count_with(&self.reader.table, close_of(average), 0, &format!("n={} m={m}", self.n()));
+        (1..=4).min_by_key(met).unwrap_or(any)
+    }
+
+    /// Which close a correction is aimed at: as often as not the flat one, but seldom where it is refused for a turn.
+    pub fn average(&mut self) -> Average {
+        let flat = if self.turns() { 15 } else { 50 };
+        if self.random.chance(flat) {
+            Average::Flat
+        } else {
+            Average::Weighted
+        }
+    }
+
+    /// Whether some state is a turn.
+    fn turns(&self) -> bool {
+        self.reader.filter.kinds.iter().any(|kind| kind.half().is_some())
+    }
+
     /// Four KINDs, these first.
-    pub fn four_kinds(&mut self, measured: &[Kind]) -> String {
+    fn four_kinds(&mut self, measured: &[Kind]) -> String {
         let mut all = measured.to_vec();
         while all.len() < 4 {
             let junk = if self.random.chance(50) { Kind::Plain } else { Kind::Turn(self.random.junk()) };
             all.push(junk);
         }
         all.into_iter().map(kind).collect::<Vec<_>>().join(" ")
+    }
+}
+
+fn close_of(average: Average) -> &'static str {
+    match average {
+        Average::Weighted => "closec",
+        Average::Flat => "closef",
     }
 }
 

@@ -1,9 +1,10 @@
-//! Filters led to each refusal that a step gives: 7, 8, and 9 in every listed step result.
+//! Filters led to each refusal that a step gives: 7, 8, and 9 in every listed step result, of the weighted close and of the flat one.
 
 use oracle::kinds::Kind;
-use oracle::steps::Params;
+use oracle::steps::{Average, Params};
 
 use crate::maker::{params, Fault, Made, Maker};
+use crate::rounds::power;
 
 const TINY: f64 = 1.0e-300;
 const MAX: f64 = f64::MAX;
@@ -20,24 +21,32 @@ impl Maker {
         if self.new_line(n, &x, &p, &diagonal(n, 1.0), exact)? != 0 {
             return Ok(()); // too long a line
         }
-        let m = 1 + self.random.below(4);
-        match self.random.below(20) {
-            0 => self.pivot_of_p()?,
-            1 => self.entry_of_p()?,
-            2 => self.points()?,
-            3 => self.prediction_mean()?,
-            4 => self.prediction_spread()?,
-            5 => self.z_mean(m)?,
-            6 => self.innovation(m)?,
-            7..=8 => self.x_mean(m)?,
-            9..=10 => self.cross_covariance(m)?,
-            11 => self.pivot_of_s(m)?,
-            12 => self.entry_of_s(m.max(2))?,
-            13 => self.inverse(m)?,
-            14..=15 => self.gain(m)?,
-            16 => self.y(m)?,
-            17 => self.corrected_x(m)?,
-            _ => self.corrected_p(m)?,
+        // Every step in turn, those of a correction once for each average.
+        let aim = (self.aims % 27) as usize;
+        self.aims += 1;
+        let (average, m) = ([Average::Weighted, Average::Flat][aim % 2], 1 + self.random.below(4));
+        if average == Average::Flat && self.random.chance(15) {
+            // Refused for its kind before any step is taken.
+            let i = self.random.below(n);
+            self.say(format!("setkind {i} t 4066800000000000"))?;
+        }
+        match aim {
+            0..=1 => self.z_mean(average, m)?,
+            2..=3 => self.innovation(average, m)?,
+            4..=5 => self.x_mean(average, m)?,
+            6..=7 => self.cross_covariance(average, m)?,
+            8..=9 => self.pivot_of_s(average, m)?,
+            10..=11 => self.entry_of_s(average, m.max(2))?,
+            12..=13 => self.inverse(average, m)?,
+            14..=15 => self.gain(average, m)?,
+            16..=17 => self.y(average, m)?,
+            18..=19 => self.corrected_x(average, m)?,
+            20..=21 => self.corrected_p(average, m)?,
+            22 => self.pivot_of_p()?,
+            23 => self.entry_of_p()?,
+            24 => self.points()?,
+            25 => self.prediction_mean()?,
+            _ => self.prediction_spread()?,
         }
         if self.random.chance(40) {
             self.say("dump")?;
@@ -62,13 +71,16 @@ impl Maker {
         self.say(line)
     }
 
-    /// Either open; on a stale filter both draw.
-    fn open_either(&mut self) -> Made<u8> {
+    /// Both opens, one after the other; on a stale filter both draw, and where one is refused so is the other.
+    fn open_both(&mut self) -> Made<()> {
         if self.random.chance(50) {
-            self.open_prediction()
+            self.open_prediction()?;
+            self.open_correction()?;
         } else {
-            self.open_correction()
+            self.open_correction()?;
+            self.open_prediction()?;
         }
+        Ok(())
     }
 
     /// 1.0 to 10.0 times `size`, of either sign.
@@ -89,9 +101,7 @@ impl Maker {
             p[0] = 1.0;
         }
         self.set_p(&p)?;
-        self.open_either()?;
-        self.open_either()?;
-        Ok(())
+        self.open_both()
     }
 
     fn entry_of_p(&mut self) -> Made<()> {
@@ -99,9 +109,7 @@ impl Maker {
         let mut p = diagonal(n, 1.0);
         self.entry_overflows(&mut p, n);
         self.set_p(&p)?;
-        self.open_either()?;
-        self.open_either()?;
-        Ok(())
+        self.open_both()
     }
 
     /// Makes an entry of the factor overflow, and at times the pivot of another column bad: the earlier column decides.
@@ -128,9 +136,7 @@ impl Maker {
         self.set_p(&p)?;
         let par = Params { alpha: self.random.pick(&[1.0e154, 1.0e150]), beta: 0.0, kappa: 1.0 - n as f64 };
         self.say(format!("setpar{}", params(par)))?;
-        self.open_either()?;
-        self.open_either()?;
-        Ok(())
+        self.open_both()
     }
 
     fn prediction_mean(&mut self) -> Made<()> {
@@ -172,43 +178,70 @@ impl Maker {
         r
     }
 
-    fn z_mean(&mut self, m: usize) -> Made<()> {
+    fn z_mean(&mut self, average: Average, m: usize) -> Made<()> {
         let mut observed = self.opened_correction(m)?;
         let j = self.random.below(m);
         observed[j] = 1.2e308;
-        observed[m + j] = -1.2e308;
+        // The difference from the centre overflows, or the flat sum.
+        observed[m + j] = match average {
+            Average::Weighted => -1.2e308,
+            Average::Flat => 1.2e308,
+        };
         let r = self.noise_of_one(m);
-        self.close_correction(&vec![0.0; m], &r, &PLAIN[..m], &observed)?;
+        self.close_correction(average, &vec![0.0; m], &r, &PLAIN[..m], &observed)?;
         Ok(())
     }
 
-    fn innovation(&mut self, m: usize) -> Made<()> {
+    fn innovation(&mut self, average: Average, m: usize) -> Made<()> {
         let mut observed = self.opened_correction(m)?;
         let at = self.random.below(observed.len());
         observed[at] = self.about(1.0e200);
         let r = self.noise_of_one(m);
-        self.close_correction(&vec![0.0; m], &r, &PLAIN[..m], &observed)?;
+        self.close_correction(average, &vec![0.0; m], &r, &PLAIN[..m], &observed)?;
         Ok(())
     }
 
-    /// A prediction whose points are all alike and of this size; then parameters with another w0m, which the Rust mixes
-    /// with the weights that it kept: the mean lies far from all points.
-    fn far_mean(&mut self, size: f64) -> Made<()> {
-        let n = self.n();
+    /// A prediction whose points are all alike.
+    fn alike(&mut self, one: &[f64]) -> Made<()> {
         self.open_prediction()?;
-        let one: Vec<f64> = (0..n).map(|_| self.about(size)).collect();
-        let moved: Vec<f64> = (0..2 * n + 1).flat_map(|_| one.clone()).collect();
+        let moved = one.repeat(2 * one.len() + 1);
         self.close_prediction(&moved)?;
-        let par = Params { alpha: self.random.pick(&[1.0e-5, 1.0e-6]), beta: 0.0, kappa: 0.0 };
+        Ok(())
+    }
+
+    /// Points far (`size`, squared beyond all doubles) from their mean, with P finite all the same.
+    fn far_mean(&mut self, average: Average, size: f64) -> Made<()> {
+        let n = self.n();
+        let par = match average {
+            // Points all alike; then parameters with another w0m, which the Rust mixes with the weights that it kept: the mean lies elsewhere.
+            Average::Weighted => {
+                let one: Vec<f64> = (0..n).map(|_| self.about(size)).collect();
+                self.alike(&one)?;
+                Params { alpha: self.random.pick(&[1.0e-5, 1.0e-6]), beta: 0.0, kappa: 0.0 }
+            }
+            // Points drawn that far apart: the root of N is alpha.
+            Average::Flat => {
+                let p = self.random.covariance(n, 1.0e50);
+                self.set_p(&p)?;
+                Params { alpha: size * 1.0e-50, beta: 0.0, kappa: 1.0 - n as f64 }
+            }
+        };
         self.say(format!("setpar{}", params(par)))?;
         Ok(())
     }
 
-    fn x_mean(&mut self, m: usize) -> Made<()> {
-        self.far_mean(1.0e300)?;
+    fn x_mean(&mut self, average: Average, m: usize) -> Made<()> {
+        match average {
+            Average::Weighted => self.far_mean(average, 1.0e300)?,
+            // Each point is finite, their sum isn't.
+            Average::Flat => {
+                let one: Vec<f64> = (0..self.n()).map(|_| self.random.within(0.7, 1.7) * 1.0e308 * self.random.sign()).collect();
+                self.alike(&one)?;
+            }
+        }
         let observed = self.opened_correction(m)?;
         let r = self.noise_of_one(m);
-        self.close_correction(&vec![0.0; m], &r, &PLAIN[..m], &observed)?;
+        self.close_correction(average, &vec![0.0; m], &r, &PLAIN[..m], &observed)?;
         Ok(())
     }
 
@@ -221,15 +254,15 @@ impl Maker {
         Ok(observed)
     }
 
-    fn cross_covariance(&mut self, m: usize) -> Made<()> {
-        self.far_mean(1.0e200)?;
+    fn cross_covariance(&mut self, average: Average, m: usize) -> Made<()> {
+        self.far_mean(average, 1.0e200)?;
         let observed = self.opposite(m, 1.0e150)?;
         let r = self.noise_of_one(m);
-        self.close_correction(&vec![0.0; m], &r, &PLAIN[..m], &observed)?;
+        self.close_correction(average, &vec![0.0; m], &r, &PLAIN[..m], &observed)?;
         Ok(())
     }
 
-    fn pivot_of_s(&mut self, m: usize) -> Made<()> {
+    fn pivot_of_s(&mut self, average: Average, m: usize) -> Made<()> {
         let mut observed = self.opened_correction(m)?;
         let mut r = self.random.covariance(m, 1.0);
         let j = self.random.below(m);
@@ -243,62 +276,63 @@ impl Maker {
             // y would overflow too, but later.
             self.far_apart(&mut observed, &mut z);
         }
-        self.close_correction(&z, &r, &PLAIN[..m], &observed)?;
+        self.close_correction(average, &z, &r, &PLAIN[..m], &observed)?;
         Ok(())
     }
 
-    fn entry_of_s(&mut self, m: usize) -> Made<()> {
+    fn entry_of_s(&mut self, average: Average, m: usize) -> Made<()> {
         let observed = self.opened_correction(m)?;
         let mut r = diagonal(m, 1.0);
         self.entry_overflows(&mut r, m);
-        self.close_correction(&vec![0.0; m], &r, &PLAIN[..m], &observed)?;
+        self.close_correction(average, &vec![0.0; m], &r, &PLAIN[..m], &observed)?;
         Ok(())
     }
 
-    fn inverse(&mut self, m: usize) -> Made<()> {
+    fn inverse(&mut self, average: Average, m: usize) -> Made<()> {
         let observed = self.opened_correction(m)?;
         let mut r = diagonal(m, 1.0);
         let j = self.random.below(m);
         r[j * m + j] = self.random.pick(&[1.0e-310, f64::from_bits(1), 1.0e-309]);
-        self.close_correction(&vec![0.0; m], &r, &PLAIN[..m], &observed)?;
+        self.close_correction(average, &vec![0.0; m], &r, &PLAIN[..m], &observed)?;
         Ok(())
     }
 
-    fn gain(&mut self, m: usize) -> Made<()> {
-        self.far_mean(1.0e200)?;
+    fn gain(&mut self, average: Average, m: usize) -> Made<()> {
+        self.far_mean(average, 1.0e200)?;
         let mut observed = self.opened_correction(m)?;
         // Not opposite: with equal deviations of the states, the terms must not cancel.
         let j = self.random.below(m);
         observed[m + j] = 1.0e-150;
         let mut r = diagonal(m, 1.0);
         r[j * m + j] = 0.0;
-        self.close_correction(&vec![0.0; m], &r, &PLAIN[..m], &observed)?;
+        self.close_correction(average, &vec![0.0; m], &r, &PLAIN[..m], &observed)?;
         Ok(())
     }
 
     /// One measurement at one end of the numbers, all that is observed of it at the other.
     fn far_apart(&mut self, observed: &mut [f64], z: &mut [f64]) -> usize {
         let (m, j) = (z.len(), self.random.below(z.len()));
-        let far = self.random.sign() * 1.0e308;
+        // A power of two, so small that its sum over all points is finite: every mean is exact.
+        let far = self.random.sign() * power(1019);
         for at in (j..observed.len()).step_by(m) {
             observed[at] = far;
         }
-        z[j] = -far * 1.5;
+        z[j] = -MAX * far.signum();
         j
     }
 
-    fn y(&mut self, m: usize) -> Made<()> {
+    fn y(&mut self, average: Average, m: usize) -> Made<()> {
         let (mut observed, mut z) = (self.opened_correction(m)?, vec![0.0; m]);
         let j = self.far_apart(&mut observed, &mut z);
         let mut kinds = PLAIN;
         if self.random.chance(30) {
             kinds[j] = Kind::Turn(180.0);
         }
-        self.close_correction(&z, &diagonal(m, 1.0), &kinds[..m], &observed)?;
+        self.close_correction(average, &z, &diagonal(m, 1.0), &kinds[..m], &observed)?;
         Ok(())
     }
 
-    fn corrected_x(&mut self, m: usize) -> Made<()> {
+    fn corrected_x(&mut self, average: Average, m: usize) -> Made<()> {
         let n = self.n();
         self.set_p(&diagonal(n, 1.0e20))?;
         let mut observed = self.opened_correction(m)?;
@@ -308,19 +342,22 @@ impl Maker {
         }
         let mut z = vec![0.0; m];
         z[j] = self.about(1.0e300);
-        self.close_correction(&z, &diagonal(m, 0.01), &PLAIN[..m], &observed)?;
+        self.close_correction(average, &z, &diagonal(m, 0.01), &PLAIN[..m], &observed)?;
         Ok(())
     }
 
-    fn corrected_p(&mut self, m: usize) -> Made<()> {
-        self.far_mean(1.0e200)?;
+    fn corrected_p(&mut self, average: Average, m: usize) -> Made<()> {
+        self.far_mean(average, 1.0e200)?;
         let mut observed = self.opened_correction(m)?;
         let j = self.random.below(m);
         observed[m + j] = 1.0;
         // The mean of z is that of the first point that differs; z meets it, so that x stays.
         let mut z = vec![0.0; m];
-        z[j] = self.reader.filter.drawn_weights[1];
-        self.close_correction(&z, &diagonal(m, 1.0), &PLAIN[..m], &observed)?;
+        z[j] = match average {
+            Average::Weighted => self.reader.filter.drawn_weights[1],
+            Average::Flat => 1.0 / (2 * self.n() + 1) as f64,
+        };
+        self.close_correction(average, &z, &diagonal(m, 1.0), &PLAIN[..m], &observed)?;
         Ok(())
     }
 }

@@ -2,7 +2,7 @@
 
 use oracle::filter::list_length;
 use oracle::kinds::Kind;
-use oracle::steps::Weights;
+use oracle::steps::{Average, Weights};
 
 use crate::maker::{kind, params, Fault, Made, Maker};
 
@@ -185,7 +185,8 @@ impl Maker {
             return self.mended(unit);
         }
         self.meanwhile(unit)?;
-        let m = 1 + self.random.below(4);
+        let average = self.average();
+        let m = self.measurements(average);
         let gauge = match self.random.below(10) {
             // So small that the inverse of S would overflow: measured in larger numbers.
             0..=8 if unit < 1.0e-140 => power(self.random.between(20, 60)),
@@ -193,15 +194,20 @@ impl Maker {
             _ => power(self.random.between(-20, 20)),
         };
         let size = unit * gauge;
+        let turns = if average == Average::Flat { 0 } else { 25 };
         let measured: Vec<Kind> =
-            (0..m).map(|_| if self.random.chance(25) { Kind::Turn(self.random.half_turn(size)) } else { Kind::Plain }).collect();
+            (0..m).map(|_| if self.random.chance(turns) { Kind::Turn(self.random.half_turn(size)) } else { Kind::Plain }).collect();
         let drawn = self.reader.filter.drawn_points.clone();
         let mut observed = self.seen(&drawn, m, &measured, unit, gauge);
         if self.random.chance(5) {
             self.zeros(&mut observed, m);
         }
-        // A centre that weighs far below zero wants more noise for S to have its pivots.
-        let heavy = self.reader.filter.drawn_weights[0].abs().clamp(1.0, 1.0e6).sqrt();
+        // A centre that weighs far below zero wants more noise for S to have its pivots; a flat average of wide points for P to keep its own.
+        let [w0c, wi] = self.reader.filter.drawn_weights;
+        let heavy = match average {
+            Average::Weighted => w0c.abs().clamp(1.0, 1.0e6).sqrt(),
+            Average::Flat => (1.0 / (wi * (2 * self.n() + 1) as f64)).clamp(1.0, 1.0e6),
+        };
         let r = match self.random.below(8) {
             0 => self.random.noise(m, size),
             _ => self.random.covariance(m, size * heavy),
@@ -215,10 +221,13 @@ impl Maker {
         if self.random.chance(5) {
             return self.abandoned();
         }
-        if self.close_correction(&z, &r, &measured, &observed)? != 0 {
+        let number = self.close_correction(average, &z, &r, &measured, &observed)?;
+        if number != 0 {
             self.after_refusal()?;
+            // With more noise it may pass; turned away for a turn, only the weighted close can.
+            let average = if number == 10 { Average::Weighted } else { average };
             let more: Vec<f64> = self.random.covariance(m, size * heavy * 4.0);
-            if self.close_correction(&z, &more, &measured, &observed)? != 0 {
+            if self.close_correction(average, &z, &more, &measured, &observed)? != 0 {
                 return self.abandoned();
             }
         }

@@ -12,7 +12,7 @@ use Rattle.filter.proofs.Filter.abandon.Statement.{statement}
 use Rattle.filter.proofs.Filter.abandon.Tie as tie
 
 abbrev asked : (c : tie.After-first-refusal) → Told binary64 (c .before .before .before .args .self) abandon
-asked c = record { told = _; is = tested binary64 _ (c .first-refusal .ensures) (ap not (c .before .before .is-shut .ensures)) (c .before .is-sized .ensures ∙ sym (and-true _)) (λ h. refl) refl (λ h. sym none) (λ h e. refl) }
+asked c = record { told = _; is = tested binary64 _ (c .first-refusal .ensures) (ap not (c .before .before .is-shut .ensures)) (c .before .is-sized .ensures ∙ sym (and-true _)) (λ h. refl) refl (λ h. sym none) refl (λ h e. refl) }
 
 pub abandon-spec : {M : Type 1} → statement M
 abandon-spec =

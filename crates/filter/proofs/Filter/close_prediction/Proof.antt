@@ -12,12 +12,12 @@ use Rattle.floats.specs.Fronts.{front}
 use Rattle.matrix.specs.Results.{run}
 use Rattle.sigma.specs.Draw.{pointNumbers}
 use Rattle.sigma.specs.Predict.{predictOf, moments}
-use Rattle.filter.specs.Filters.{close}
 use Rattle.filter.specs.Calls.{closing, close-prediction}
+use Rattle.filter.specs.Steps.{closedBy}
 use Rattle.filter.proofs.Sizes.{within-both, numbers-le}
 use Rattle.filter.proofs.Lines.{sized-le, long-le, slice-first}
 use Rattle.filter.proofs.Taken.{Told, turned-away, all-passed}
-use Rattle.filter.proofs.Closing.{propagatedOf, predicting, predicting-is, close-refused, close-made}
+use Rattle.filter.proofs.Closing.{propagatedOf, predicting, predicting-is, closes-so}
 use Rattle.filter.proofs.Filter.close_prediction.Statement.{statement}
 use Rattle.filter.proofs.Filter.close_prediction.Tie as tie
 
@@ -44,19 +44,11 @@ made-is c =
 
 returns-2 : tie.Need-returns-2
 returns-2 c =
-    let d = c .before .before .before .before .before .before .before .before .before .before .before .before in
-    let s = c .before .before .before .before .before .before .before .before .before .before .before .before .before .before .before .before .before .args .self in
-    let v = now (c .before .before .before .before .before .before .before .before .before .before .before .before .before .before .before .before .before .args .points) in
-    close-refused (asked (d .before)) (d .if1 .left) (s .«drawn_weights») (propagatedOf binary64 s v) false (predicting binary64 s v) (predicting-is binary64 s v (all-passed (asked (d .before)) (d .if1 .left) .fits)) (made-is (c .before .before)) (c .if2 .taken)
-
-returns-3 : tie.Need-returns-3
-returns-3 c =
-    let d = c .before .before .before .before .before .before .before .before .before .before .before .before .before .before .before in
-    let s = c .before .before .before .before .before .before .before .before .before .before .before .before .before .before .before .before .before .before .before .before .args .self in
-    let v = now (c .before .before .before .before .before .before .before .before .before .before .before .before .before .before .before .before .before .before .before .before .args .points) in
-    let m = c .before .before .before .before .before .reconstruct-prediction .result in
-    close-made (asked (d .before)) (d .if1 .left) (s .«drawn_weights») (propagatedOf binary64 s v) false (predicting binary64 s v) (predicting-is binary64 s v (all-passed (asked (d .before)) (d .if1 .left) .fits)) (made-is (c .before .before .before .before .before)) (c .before .before .before .if2 .left)
-    (c .close .ensures ∙ ap (λ (u : List Float). close s (record { x = m .x; p = m .p; installed = record { weights = s .«drawn_weights»; points = u }; stale = false })) (propagated-is (c .before .before .before .before .before .before .before .before .before .before .before .before .before .before)))
+    let d = c .before .before .before .before .before .before .before .before .before .before .before in
+    let s = c .before .before .before .before .before .before .before .before .before .before .before .before .before .before .before .before .args .self in
+    let v = now (c .before .before .before .before .before .before .before .before .before .before .before .before .before .before .before .before .args .points) in
+    closes-so (asked (d .before)) (d .if1 .left) (propagatedOf binary64 s v) false (predicting binary64 s v) (predicting-is binary64 s v (all-passed (asked (d .before)) (d .if1 .left) .fits)) (made-is (c .before))
+    (c .close .ensures ∙ ap (λ (u : List Float). closedBy s u false (c .before .reconstruct-prediction .result)) (propagated-is (c .before .before .before .before .before .before .before .before .before .before)))
 
 pub close-prediction-spec : {M : Type 1} → statement M
 close-prediction-spec =
@@ -69,6 +61,5 @@ close-prediction-spec =
     points-requires
     (λ c κs. sized-at (c .before .before))
     (λ c κs. sized-at (c .before .before .before .before .before .before .before .before .before))
-    returns-2
     (λ c κs. search needs)
-    returns-3)
+    returns-2)

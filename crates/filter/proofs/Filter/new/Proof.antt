@@ -51,6 +51,7 @@ asked c =
           (λ h. c .before .before .both .ensures ∙ ap₂ (λ (s t : Bool). s && t) (c .before .before .before .before .fronts-finite .ensures) (c .before .before .before .params-finite .ensures)
           ∙ finite-last (take (a .n) (now (a .x))) (take j (now (a .p))) (take j (now (a .q))) (a .params .alpha ∷ a .params .beta ∷ a .params .kappa ∷ [])
           ∙ ap (λ (i : ℕ). allFinite (take (a .n) (now (a .x)) ++ (take i (now (a .p)) ++ (take i (now (a .q)) ++ (a .params .alpha ∷ a .params .beta ∷ a .params .kappa ∷ []))))) (k (states-le _ [] h)))
+          refl
           (λ h e. c .before .params-pass .ensures ∙ passing-8 _ _ (states-le _ [] h));
     }
 

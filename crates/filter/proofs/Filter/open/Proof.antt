@@ -38,7 +38,7 @@ asked c =
       is =
           tested binary64 _ (c .first-refusal .ensures) (c .before .before .before .is-shut .ensures) (c .before .before .is-sized .ensures ∙ sym (and-true _))
           (λ h. ap (λ (j : ℕ). leb j (length (now (a .out)))) (c .before .point-numbers .ensures ∙ within-both _ _ _ (states-le _ [] h) (states-le _ [] h)) ∙ sym (and-true _))
-          refl (λ h. sym none) (λ h e. refl)
+          refl (λ h. sym none) refl (λ h e. refl)
           ∙ ap (firstRefusal binary64) (opening-asks (a .self) (a .stage) (now (a .out)));
     }
 

@@ -11,7 +11,7 @@ use Rattle.filter.proofs.Filter.read_params.Statement.{statement}
 use Rattle.filter.proofs.Filter.read_params.Tie as tie
 
 abbrev asked : (c : tie.After-first-refusal) → Told binary64 (c .before .before .args .self) (reading read-params)
-asked c = record { told = _; is = tested binary64 _ (c .first-refusal .ensures) refl (c .before .is-sized .ensures ∙ sym (and-true _)) (λ h. refl) refl (λ h. sym none) (λ h e. refl) }
+asked c = record { told = _; is = tested binary64 _ (c .first-refusal .ensures) refl (c .before .is-sized .ensures ∙ sym (and-true _)) (λ h. refl) refl (λ h. sym none) refl (λ h e. refl) }
 
 returns : tie.Need-returns
 unfolding ofBits

@@ -27,6 +27,7 @@ asked c =
           (c .before .before .both .ensures ∙ ap (λ (b : Bool). b && ltb (a .i) (a .self .n)) (s .is-sized .ensures) ∙ state-in (a .i) (a .self .n))
           (λ h. refl) refl
           (λ h. ap (λ (r : ℕ). not (eqb r 5)) k ∙ clear-finite binary64 (a .kind))
+          refl
           (λ h e. ap (λ (r : ℕ). not (eqb r 6)) k ∙ clear-passes binary64 (a .kind) e ∙ sym (and-true _));
     }
 

@@ -17,7 +17,7 @@ asked c =
     let s = c .before .before .before in record {
       told = _;
       is =
-          tested binary64 _ (c .first-refusal .ensures) (s .before .is-shut .ensures) (s .is-sized .ensures ∙ sym (and-true _)) (λ h. refl) refl (λ h. c .before .before .params-finite .ensures)
+          tested binary64 _ (c .first-refusal .ensures) (s .before .is-shut .ensures) (s .is-sized .ensures ∙ sym (and-true _)) (λ h. refl) refl (λ h. c .before .before .params-finite .ensures) refl
           (λ h e. c .before .params-pass .ensures ∙ passing-8 _ _ (states-le _ [] h));
     }
 

@@ -22,7 +22,7 @@ abbrev asks : tie.Start → Asks
 asks s = line true (s .args .n) [] (lend (now (s .args .out)) (s .args .k)) (s .args .stale) [] []
 
 abbrev asked : (c : tie.After-first-refusal) → Gives binary64 (asks (c .before .before .before .before))
-asked c = record { number = _; is = tested binary64 _ (c .first-refusal .ensures) refl (c .before .is-sized .ensures ∙ sym (and-true _)) (λ h. sym (and-true _)) refl (λ h. sym none) (λ h e. refl) }
+asked c = record { number = _; is = tested binary64 _ (c .first-refusal .ensures) refl (c .before .is-sized .ensures ∙ sym (and-true _)) (λ h. sym (and-true _)) refl (λ h. sym none) refl (λ h e. refl) }
 
 -- what the buffer is to hold, by the outcome
 abbrev held : tie.Start → Outcome (List Float) → List Float

@@ -23,6 +23,9 @@ long-at c = not-false _ (c .if3 .left)
 finite-at : (c : tie.Else5) → c .before .before .before .before .before .args .finite ≡ true
 finite-at c = not-false _ (c .if5 .left)
 
+plain-at : (c : tie.Else6) → c .before .before .before .before .before .before .args .plain ≡ true
+plain-at c = not-false _ (c .if6 .left)
+
 returns-2 : tie.Need-returns-2
 unfolding inOrder
 returns-2 c = let e : c .before .before .args .sized ≡ false = not-true _ (c .if2 .taken) in rw (fits-at (c .before), e)
@@ -46,15 +49,22 @@ returns-6 : tie.Need-returns-6
 unfolding inOrder
 returns-6 c =
     let d = c .before .before .before in
-    let e : d .before .before .before .args .passing ≡ false = not-true _ (c .if6 .taken) in
+    let e : d .before .before .before .args .plain ≡ false = not-true _ (c .if6 .taken) in
     rw (fits-at (d .before .before), sized-at (d .before), long-at d, c .before .before .if4 .left, finite-at (c .before), e)
 
 returns-7 : tie.Need-returns-7
 unfolding inOrder
 returns-7 c =
-    let d = c .before .before .before in
-    let e : d .before .before .before .args .passing ≡ true = not-false _ (c .if6 .left) in
-    rw (fits-at (d .before .before), sized-at (d .before), long-at d, c .before .before .if4 .left, finite-at (c .before), e)
+    let d = c .before .before .before .before in
+    let e : d .before .before .before .args .passing ≡ false = not-true _ (c .if7 .taken) in
+    rw (fits-at (d .before .before), sized-at (d .before), long-at d, c .before .before .before .if4 .left, finite-at (c .before .before), plain-at (c .before), e)
+
+returns-8 : tie.Need-returns-8
+unfolding inOrder
+returns-8 c =
+    let d = c .before .before .before .before in
+    let e : d .before .before .before .args .passing ≡ true = not-false _ (c .if7 .left) in
+    rw (fits-at (d .before .before), sized-at (d .before), long-at d, c .before .before .before .if4 .left, finite-at (c .before .before), plain-at (c .before), e)
 
 pub first-refusal-spec : {M : Type 1} → statement M
-first-refusal-spec = tie.close (tie.spec returns returns-2 returns-3 returns-4 returns-5 returns-6 returns-7)
+first-refusal-spec = tie.close (tie.spec returns returns-2 returns-3 returns-4 returns-5 returns-6 returns-7 returns-8)

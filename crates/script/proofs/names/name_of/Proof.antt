@@ -1,96 +1,29 @@
 -- `script::names::name_of` meets its contract: six names in turn, then the rest of the table. Assumes nothing.
 use borrow.Author.Needs.{needs}
-use mathlib.Core.Path.{sym, _∙_}
-use Rattle.script.specs.Names.{named}
+use denote.Ref.{now}
+use lib.ListN.{drop}
+use Rattle.script.specs.Names.{settings}
+use Rattle.script.proofs.Tried.{Tried, begin, hit, missed, last}
 use Rattle.script.proofs.names.name_of.Statement.{statement}
 use Rattle.script.proofs.names.name_of.Tie as tie
 
-returns : tie.Need-returns
-unfolding named
-returns c =
-    rw (sym (c .before .same-bytes .ensures) ∙ c .if1 .taken)
+past1 : (c : tie.Else1) → Tried settings (drop 1 settings) (now (c .before .before .before .before .args .token))
+past1 c = missed begin (c .before .same-bytes .ensures) (c .if1 .left)
 
-returns-2 : tie.Need-returns-2
-unfolding named
-returns-2 c =
-    let e1 = c .before .before .before in
-    rw (
-      sym (e1 .before .same-bytes .ensures) ∙ e1 .if1 .left,
-      sym (c .before .same-bytes2 .ensures) ∙ c .if2 .taken,
-    )
+past2 : (c : tie.Else2) → Tried settings (drop 2 settings) (now (c .before .before .before .before .before .before .before .args .token))
+past2 c = missed (past1 (c .before .before .before)) (c .before .same-bytes2 .ensures) (c .if2 .left)
 
-returns-3 : tie.Need-returns-3
-unfolding named
-returns-3 c =
-    let e2 = c .before .before .before in
-    let e1 = e2 .before .before .before in
-    rw (
-      sym (e1 .before .same-bytes .ensures) ∙ e1 .if1 .left,
-      sym (e2 .before .same-bytes2 .ensures) ∙ e2 .if2 .left,
-      sym (c .before .same-bytes3 .ensures) ∙ c .if3 .taken,
-    )
+past3 : (c : tie.Else3) → Tried settings (drop 3 settings) (now (c .before .before .before .before .before .before .before .before .before .before .args .token))
+past3 c = missed (past2 (c .before .before .before)) (c .before .same-bytes3 .ensures) (c .if3 .left)
 
-returns-4 : tie.Need-returns-4
-unfolding named
-returns-4 c =
-    let e3 = c .before .before .before in
-    let e2 = e3 .before .before .before in
-    let e1 = e2 .before .before .before in
-    rw (
-      sym (e1 .before .same-bytes .ensures) ∙ e1 .if1 .left,
-      sym (e2 .before .same-bytes2 .ensures) ∙ e2 .if2 .left,
-      sym (e3 .before .same-bytes3 .ensures) ∙ e3 .if3 .left,
-      sym (c .before .same-bytes4 .ensures) ∙ c .if4 .taken,
-    )
+past4 : (c : tie.Else4) → Tried settings (drop 4 settings) (now (c .before .before .before .before .before .before .before .before .before .before .before .before .before .args .token))
+past4 c = missed (past3 (c .before .before .before)) (c .before .same-bytes4 .ensures) (c .if4 .left)
 
-returns-5 : tie.Need-returns-5
-unfolding named
-returns-5 c =
-    let e4 = c .before .before .before in
-    let e3 = e4 .before .before .before in
-    let e2 = e3 .before .before .before in
-    let e1 = e2 .before .before .before in
-    rw (
-      sym (e1 .before .same-bytes .ensures) ∙ e1 .if1 .left,
-      sym (e2 .before .same-bytes2 .ensures) ∙ e2 .if2 .left,
-      sym (e3 .before .same-bytes3 .ensures) ∙ e3 .if3 .left,
-      sym (e4 .before .same-bytes4 .ensures) ∙ e4 .if4 .left,
-      sym (c .before .same-bytes5 .ensures) ∙ c .if5 .taken,
-    )
+past5 : (c : tie.Else5) → Tried settings (drop 5 settings) (now (c .before .before .before .before .before .before .before .before .before .before .before .before .before .before .before .before .args .token))
+past5 c = missed (past4 (c .before .before .before)) (c .before .same-bytes5 .ensures) (c .if5 .left)
 
-returns-6 : tie.Need-returns-6
-unfolding named
-returns-6 c =
-    let e5 = c .before .before .before in
-    let e4 = e5 .before .before .before in
-    let e3 = e4 .before .before .before in
-    let e2 = e3 .before .before .before in
-    let e1 = e2 .before .before .before in
-    rw (
-      sym (e1 .before .same-bytes .ensures) ∙ e1 .if1 .left,
-      sym (e2 .before .same-bytes2 .ensures) ∙ e2 .if2 .left,
-      sym (e3 .before .same-bytes3 .ensures) ∙ e3 .if3 .left,
-      sym (e4 .before .same-bytes4 .ensures) ∙ e4 .if4 .left,
-      sym (e5 .before .same-bytes5 .ensures) ∙ e5 .if5 .left,
-      sym (c .before .same-bytes6 .ensures) ∙ c .if6 .taken,
-    )
-
-returns-7 : tie.Need-returns-7
-unfolding named
-returns-7 c =
-    let e5 = c .before .before .before .before in
-    let e4 = e5 .before .before .before in
-    let e3 = e4 .before .before .before in
-    let e2 = e3 .before .before .before in
-    let e1 = e2 .before .before .before in
-    rw (
-      sym (e1 .before .same-bytes .ensures) ∙ e1 .if1 .left,
-      sym (e2 .before .same-bytes2 .ensures) ∙ e2 .if2 .left,
-      sym (e3 .before .same-bytes3 .ensures) ∙ e3 .if3 .left,
-      sym (e4 .before .same-bytes4 .ensures) ∙ e4 .if4 .left,
-      sym (e5 .before .same-bytes5 .ensures) ∙ e5 .if5 .left,
-      sym (c .before .before .same-bytes6 .ensures) ∙ c .before .if6 .left,
-    ) (c .step-of .ensures)
+past6 : (c : tie.Else6) → Tried settings (drop 6 settings) (now (c .before .before .before .before .before .before .before .before .before .before .before .before .before .before .before .before .before .before .before .args .token))
+past6 c = missed (past5 (c .before .before .before)) (c .before .same-bytes6 .ensures) (c .if6 .left)
 
 pub name-of-spec : {M : Type 1} → statement M
 name-of-spec =
@@ -98,21 +31,21 @@ name-of-spec =
     (tie.spec
     (λ c. search needs)
     (λ c κs. search needs)
-    returns
+    (λ c. hit begin (c .before .same-bytes .ensures) (c .if1 .taken))
     (λ c. search needs)
     (λ c κs. search needs)
-    returns-2
+    (λ c. hit (past1 (c .before .before .before)) (c .before .same-bytes2 .ensures) (c .if2 .taken))
     (λ c. search needs)
     (λ c κs. search needs)
-    returns-3
+    (λ c. hit (past2 (c .before .before .before)) (c .before .same-bytes3 .ensures) (c .if3 .taken))
     (λ c. search needs)
     (λ c κs. search needs)
-    returns-4
+    (λ c. hit (past3 (c .before .before .before)) (c .before .same-bytes4 .ensures) (c .if4 .taken))
     (λ c. search needs)
     (λ c κs. search needs)
-    returns-5
+    (λ c. hit (past4 (c .before .before .before)) (c .before .same-bytes5 .ensures) (c .if5 .taken))
     (λ c. search needs)
     (λ c κs. search needs)
-    returns-6
+    (λ c. hit (past5 (c .before .before .before)) (c .before .same-bytes6 .ensures) (c .if6 .taken))
     (λ c κs. search needs)
-    returns-7)
+    (λ c. last (past6 (c .before)) (c .step-of .ensures)))

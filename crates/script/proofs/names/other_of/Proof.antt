@@ -1,60 +1,28 @@
--- `script::names::other_of` meets its contract: the four names in turn. Assumes nothing.
+-- `script::names::other_of` meets its contract: the last four names in turn. Assumes nothing.
+use mathlib.Core.Path.{refl}
 use borrow.Author.Needs.{needs}
-use mathlib.Core.Path.{sym, _∙_}
-use Rattle.script.specs.Names.{named}
+use denote.Ref.{now}
+use lib.ListN.{drop}
+use Rattle.script.specs.Names.{named, others}
+use Rattle.script.proofs.Tried.{Tried, begin, hit, missed, last}
 use Rattle.script.proofs.names.other_of.Statement.{statement}
 use Rattle.script.proofs.names.other_of.Tie as tie
 
-returns : tie.Need-returns
-unfolding named
-returns c =
-    rw (sym (c .before .same-bytes .ensures) ∙ c .if1 .taken)
+past1 : (c : tie.Else1) → Tried others (drop 1 others) (now (c .before .before .before .before .args .token))
+past1 c = missed begin (c .before .same-bytes .ensures) (c .if1 .left)
 
-returns-2 : tie.Need-returns-2
-unfolding named
-returns-2 c =
-    let e1 = c .before .before .before in
-    rw (
-      sym (e1 .before .same-bytes .ensures) ∙ e1 .if1 .left,
-      sym (c .before .same-bytes2 .ensures) ∙ c .if2 .taken,
-    )
+past2 : (c : tie.Else2) → Tried others (drop 2 others) (now (c .before .before .before .before .before .before .before .args .token))
+past2 c = missed (past1 (c .before .before .before)) (c .before .same-bytes2 .ensures) (c .if2 .left)
 
-returns-3 : tie.Need-returns-3
-unfolding named
-returns-3 c =
-    let e2 = c .before .before .before in
-    let e1 = e2 .before .before .before in
-    rw (
-      sym (e1 .before .same-bytes .ensures) ∙ e1 .if1 .left,
-      sym (e2 .before .same-bytes2 .ensures) ∙ e2 .if2 .left,
-      sym (c .before .same-bytes3 .ensures) ∙ c .if3 .taken,
-    )
+past3 : (c : tie.Else3) → Tried others (drop 3 others) (now (c .before .before .before .before .before .before .before .before .before .before .args .token))
+past3 c = missed (past2 (c .before .before .before)) (c .before .same-bytes3 .ensures) (c .if3 .left)
 
-returns-4 : tie.Need-returns-4
-unfolding named
-returns-4 c =
-    let e3 = c .before .before .before in
-    let e2 = e3 .before .before .before in
-    let e1 = e2 .before .before .before in
-    rw (
-      sym (e1 .before .same-bytes .ensures) ∙ e1 .if1 .left,
-      sym (e2 .before .same-bytes2 .ensures) ∙ e2 .if2 .left,
-      sym (e3 .before .same-bytes3 .ensures) ∙ e3 .if3 .left,
-      sym (c .before .same-bytes4 .ensures) ∙ c .if4 .taken,
-    )
+past4 : (c : tie.Else4) → Tried others (drop 4 others) (now (c .before .before .before .before .before .before .before .before .before .before .before .before .before .args .token))
+past4 c = missed (past3 (c .before .before .before)) (c .before .same-bytes4 .ensures) (c .if4 .left)
 
 returns-5 : tie.Need-returns-5
 unfolding named
-returns-5 c =
-    let e3 = c .before .before .before in
-    let e2 = e3 .before .before .before in
-    let e1 = e2 .before .before .before in
-    rw (
-      sym (e1 .before .same-bytes .ensures) ∙ e1 .if1 .left,
-      sym (e2 .before .same-bytes2 .ensures) ∙ e2 .if2 .left,
-      sym (e3 .before .same-bytes3 .ensures) ∙ e3 .if3 .left,
-      sym (c .before .same-bytes4 .ensures) ∙ c .if4 .left,
-    )
+returns-5 c = last (past4 c) refl
 
 pub other-of-spec : {M : Type 1} → statement M
 other-of-spec =
@@ -62,14 +30,14 @@ other-of-spec =
     (tie.spec
     (λ c. search needs)
     (λ c κs. search needs)
-    returns
+    (λ c. hit begin (c .before .same-bytes .ensures) (c .if1 .taken))
     (λ c. search needs)
     (λ c κs. search needs)
-    returns-2
+    (λ c. hit (past1 (c .before .before .before)) (c .before .same-bytes2 .ensures) (c .if2 .taken))
     (λ c. search needs)
     (λ c κs. search needs)
-    returns-3
+    (λ c. hit (past2 (c .before .before .before)) (c .before .same-bytes3 .ensures) (c .if3 .taken))
     (λ c. search needs)
     (λ c κs. search needs)
-    returns-4
+    (λ c. hit (past3 (c .before .before .before)) (c .before .same-bytes4 .ensures) (c .if4 .taken))
     returns-5)

@@ -1,0 +1,61 @@
+-- `Filter::close_correction_flat` meets its contract. Assumes nothing.
+use mathlib.Core.Path.{_≡_, refl, ap, _∙_}
+use mathlib.Core.Bool.{true}
+use borrow.Author.Needs.{needs}
+use denote.Ref.{now}
+use lib.Ieee.{binary64}
+use Rattle.matrix.specs.Results.{run}
+use Rattle.sigma.specs.Predict.{moments}
+use Rattle.correction.specs.Flat.{flatOf}
+use Rattle.filter.specs.Calls.{Call, closing, close-correction-flat, measurement}
+use Rattle.filter.specs.declared.measured.Measured.{Measured}
+use Rattle.filter.proofs.Sizes.{and-true}
+use Rattle.filter.proofs.Order.{tested}
+use Rattle.filter.proofs.Taken.{Told, turned-away, all-passed}
+use Rattle.filter.proofs.Measuring.{Lent, number-in-order, sizes-in, taken-in}
+use Rattle.filter.proofs.Closing.{flatOn, correcting-flat-is, closes-so}
+use Rattle.filter.proofs.Filter.close_correction_flat.Statement.{statement}
+use Rattle.filter.proofs.Filter.close_correction_flat.Tie as tie
+
+abbrev call : tie.Start → Call
+call s = closing (close-correction-flat (s .args .m) (now (s .args .z)) (now (s .args .r)) (now (s .args .observed)))
+
+abbrev start : tie.After-take-in → tie.Start
+start c = c .before .before .before .before .before .before .before
+
+abbrev lent : (c : tie.After-take-in) → Lent (c .before .before .before .is-correcting .result) (start c .args .self .n) (start c .args .m) (now (start c .args .z)) (now (start c .args .r)) (now (start c .args .observed)) true (c .before .all-plain .result) true (c .take-in .result)
+lent c = record { is = c .take-in .ensures }
+
+abbrev asked : (c : tie.After-take-in) → Told binary64 (start c .args .self) (call (start c))
+asked c = record { told = _; is = tested binary64 _ (number-in-order (lent c)) (c .before .before .before .is-correcting .ensures) refl (λ h. refl) refl (λ h. and-true _) (c .before .all-plain .ensures) (λ h e. refl) }
+
+-- where the call went on past its tests
+abbrev went : tie.After-correct-nonlinear → tie.Else1
+went c = c .before .before .before .before .before .before .before .before .before .before .before .before .before
+
+made-is : (c : tie.After-correct-nonlinear) → c .correct-nonlinear .result ≡ moments (run (flatOn binary64 (start (went c .before .before) .args .self) (start (went c .before .before) .args .m) (measurement (start (went c .before .before) .args .self .n) (start (went c .before .before) .args .m) (now (start (went c .before .before) .args .z)) (now (start (went c .before .before) .args .r)) (now (start (went c .before .before) .args .observed)))))
+made-is c =
+    let a = start (went c .before .before) .args in
+    let s = a .self in
+    c .correct-nonlinear .ensures
+    ∙ ap (λ (v : Measured). moments (flatOf binary64 (s .n) (a .m) (s .x) (s .p) (s .«drawn_points») (v .observed) (v .z) (v .r))) (taken-in (lent (went c .before .before)) (went c .if1 .left))
+
+returns-2 : tie.Need-returns-2
+returns-2 c =
+    let d = went (c .before) in
+    let a = start (d .before .before) .args in
+    let s = a .self in
+    closes-so (asked (d .before .before)) (d .if1 .left) (s .«drawn_points») true _
+    (correcting-flat-is binary64 s (a .m) (now (a .z)) (now (a .r)) (now (a .observed)) (all-passed (asked (d .before .before)) (d .if1 .left) .fits)) (made-is (c .before)) (c .close .ensures)
+
+pub close-correction-flat-spec : {M : Type 1} → statement M
+close-correction-flat-spec =
+    tie.close
+    (tie.spec
+    (λ c κs. search needs)
+    (λ c κs. search needs)
+    (λ c κs. search needs)
+    (λ c. turned-away (asked (c .before .before)) (c .if1 .taken))
+    (λ c κs. sizes-in (lent (c .before .before .before .before .before .before .before .before .before .before .before .before .before .before)) (c .before .before .before .before .before .before .before .before .before .before .before .before .if1 .left))
+    (λ c κs. search needs)
+    returns-2)

@@ -1,0 +1,13 @@
+-- `measured::refuse` meets its contract. Assumes nothing.
+use mathlib.Core.Path.{refl}
+use lib.Ieee.{ofBits}
+use Rattle.floats.specs.Numbers.{zeros}
+use Rattle.filter.proofs.measured.refuse.Statement.{statement}
+use Rattle.filter.proofs.measured.refuse.Tie as tie
+
+returns : tie.Need-returns
+unfolding ofBits zeros
+returns c = refl
+
+pub refuse-spec : {M : Type 1} → statement M
+refuse-spec = tie.close (tie.spec returns)
