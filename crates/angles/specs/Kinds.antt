@@ -12,9 +12,12 @@ use Rattle.angles.specs.declared.Kind.{Kind}
 abbrev pub plain : Kind
 plain = record { residual = Plain }
 
-abbrev pub isPlain : Residual → Bool
-isPlain Plain = true
-isPlain (Turn h) = false
+abbrev pub noTurn : Residual → Bool
+noTurn Plain = true
+noTurn (Turn h) = false
+
+abbrev pub isPlain : Kind → Bool
+isPlain k = noTurn (k .residual)
 
 -- a difference as it is, or wrapped
 abbrev pub turned : Format → Residual → Float → Float

@@ -11,7 +11,7 @@ use Rattle.matrix.specs.Sums.{plusOf}
 use Rattle.sigma.specs.Weights.{whole}
 use Rattle.sigma.specs.Spread.{deviationsOf}
 use Rattle.sigma.specs.Predict.{Moment}
-use Rattle.correction.specs.Leaves.{allPlain}
+use Rattle.correction.specs.Leaves.{noKinds}
 use Rattle.correction.specs.Correct.{Head, applyPlan}
 
 -- the sum from +0 over the points 0 to t, divided by their number
@@ -38,15 +38,15 @@ module _ (f : Format) (n m : ℕ) (x p points observed z r : List Float) where
   abbrev pub flatHead : Head
   flatHead =
       let zm = flatMeanOf f observed m (n + n) in
-      let dz = deviationsOf f observed m (n + n) zm allPlain in
+      let dz = deviationsOf f observed m (n + n) zm noKinds in
       let xm = flatMeanOf f points n (n + n) in
-      let dx = deviationsOf f points n (n + n) xm allPlain in record {
+      let dx = deviationsOf f points n (n + n) xm noKinds in record {
         n = n;
         m = m;
         x = x;
         p = p;
         z = z;
-        measured = allPlain;
+        measured = noKinds;
         zm = zm;
         s = plusOf f (m * m) r (flatSpreadOf f dz m dz m (n + n));
         xm = xm;

@@ -27,6 +27,6 @@ shiftedOf f n m x k y = placesOf (shiftedAt f m x k y) n (zeros 8)
 abbrev pub widened : List Kind → List Kind
 widened kinds = kinds ++ replicate 4 plain
 
--- no kinds: a difference through one of these is the difference
-abbrev pub allPlain : List Kind
-allPlain = replicate 8 plain
+-- no kinds at all: eight plain ones, through which a difference is the difference
+abbrev pub noKinds : List Kind
+noKinds = replicate 8 plain

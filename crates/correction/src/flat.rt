@@ -11,7 +11,7 @@ use matrix::sums;
 use sigma::Moments;
 use sigma::spread;
 
-// How many points 0 to t are.
+// The number of points, 0 to t.
 fn count(t: usize) -> f64
     requires { ⌜ t < 17 ⌝ }
     ensures { λ r. ⌜ r ≡ whole binary64 (t + 1) ⌝ }

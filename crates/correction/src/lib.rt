@@ -1,4 +1,4 @@
-// The correction: x and P from observed points and a measurement, in two ways that differ in how they average; the flat one is in `flat`.
+// The correction: x and P from observed points and a measurement, by weighted averages through the kinds or, in `flat`, by flat ones without kinds; and the steps that both share.
 ghost use mathlib.Core.Path.{_≡_};
 ghost use Prim.Native.Nat.{_≤_};
 ghost use lib.Ieee.{binary64};
@@ -74,7 +74,7 @@ fn widened(kinds: [Kind; 4]) -> [Kind; 8]
     ]
 }
 
-// The steps that the two closes share, from z mean, S, x mean and the cross covariance C, as a close has made them, on: the factor of S, its inverse V, the gain K = C·Vᵀ, y, x and P. Each listed result is checked in running order, those four first.
+// The steps that both share (the Rust's `compute_kalman_gain` and `apply_correction`), from z mean, S, x mean and the cross covariance C, as a close has made them, on: the factor of S, its inverse V, the gain K = C·Vᵀ, y, x and P. Each listed result is checked in running order, those four first.
 fn apply_correction(
     n: usize,
     m: usize,

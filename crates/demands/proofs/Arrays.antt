@@ -5,7 +5,7 @@ use mathlib.Core.Bool.{true}
 use mathlib.Core.List.{List, [], _∷_, _++_}
 use native.Mathlib.Nat.{suc-mul}
 use native.Mathlib.Omega.{arith}
-use lib.ListN.{length, take, drop, set, replicate, take-append-drop}
+use lib.ListN.{length, take, drop, set, replicate, take-append-drop, getD}
 use lib.Seq.{take-at, drop-at, length-take-le, drop-set-lt}
 use lib.Ieee.{Float, Format}
 use lib.Ieee.Scale.{finite}
@@ -13,7 +13,7 @@ use Rattle.floats.specs.Numbers.{plusZero, zeros, allFinite}
 use Rattle.floats.specs.Fronts.{front}
 use Rattle.floats.proofs.Finite.{all-append, all-zeros}
 use Rattle.floats.proofs.Fronts.{length-front}
-use Rattle.angles.specs.Kinds.{numbersIn}
+use Rattle.angles.specs.Kinds.{numbersIn, plain}
 use Rattle.angles.specs.declared.Kind.{Kind}
 use Rattle.matrix.specs.Folds.{placesOf, rowOf, rowsOf}
 use Rattle.matrix.proofs.Cells.{length-zeros, length-places, length-rows}
@@ -107,6 +107,12 @@ filled-all {k} {m} {l} a =
     ∙ all-both (take k l) (drop k l) (a .bounded) (ap allFinite (a .unused) ∙ all-zeros (m - k))
 
 -- ---- kinds
+
+-- eight plain ones, and plain past them
+pub plain-past : (k i : ℕ) → getD (replicate k plain) i plain ≡ plain
+plain-past zero i = refl
+plain-past (suc k) zero = refl
+plain-past (suc k) (suc i) = plain-past k i
 
 module _ (k : Kind) where
   pub kinds-finite : (ks : List Kind) (i : ℕ) → allFinite (inKinds ks) ≡ true → allFinite (numbersIn (k .residual)) ≡ true → allFinite (inKinds (set ks i k)) ≡ true

@@ -6,7 +6,7 @@ use mathlib.Core.List.{List, []}
 use mathlib.Core.Logic.{_↔_, _≢_, _⊎_}
 use lib.ListN.{length, take}
 use lib.Ieee.{Float, Format, add}
-use Rattle.floats.specs.Refusal.{Refusal, NUMBER, PARAM, SIZE, STAGE, number, refusal}
+use Rattle.floats.specs.Refusal.{Refusal, NUMBER, PARAM, SIZE, STAGE, STALE, KIND, number, refusal}
 use Rattle.floats.specs.Numbers.{plusZero, zeros, allFinite}
 use Rattle.floats.specs.Fronts.{front, over}
 use Rattle.root.specs.Answer.{rootOutcome}
@@ -23,13 +23,14 @@ use Rattle.filter.specs.Calls.{Call, setting, closing, open-prediction, open-co
 use Rattle.filter.specs.Steps.{step, paramsRead, staleRead}
 use Rattle.filter.specs.New.{empty, newAsks, newAnswer}
 use Rattle.filter.specs.Point.{pointAsks, pointRefusal, pointOf}
-use Rattle.demands.specs.Rows.{Some, NotFinite, NotAbove, Below, OutOfRange, UnfitTurn, FirstFails, Cause, Applies, Due, ByStep, Neither}
-use Rattle.demands.specs.Listed.{listedAtOpen, listedAtPrediction, listedAtCorrection, measured, measuredFlat}
+use Rattle.demands.specs.Rows.{Some, NotFinite, NotAbove, Below, OutOfRange, IsTurn, IsFlat, Measurable, UnfitTurn, FirstFails, Cause, Applies, Due, ByStep, Neither}
+use Rattle.demands.specs.Listed.{listedAtOpen, listedAtPrediction, listedAtCorrection, weightedHeadOf, flatHeadOf}
 use Rattle.demands.specs.Runs.{told}
 use Rattle.demands.specs.Sound.{Sound, Tidy, Reached, Yielded, handedOut, Each}
 use Rattle.demands.proofs.Exactly.{exactly, taken-exactly, new-exactly, new-taken, point-exactly, point-taken, wrap-exactly, wrap-taken, wrap-refused, root-exactly, kind-exactly, kind-taken, ends-so, refused-unwritten, refused-values, new-refused, point-refused}
 use Rattle.demands.proofs.Listed.{open-prediction-lists, open-correction-lists, close-prediction-lists, close-correction-lists, close-correction-flat-lists}
-use Rattle.demands.proofs.Table.{steps-give, stage-exactly, states-first, never-param}
+use Rattle.demands.proofs.Table.{steps-give, stage-exactly, states-first, kind-only, never-stale, never-param}
+use Rattle.demands.proofs.Turned.{turned-away-exactly}
 use Rattle.demands.proofs.Sound.{sound, tidy, all-handed-finite}
 use Rattle.demands.proofs.Opening.{opening-prediction, opening-correction}
 use Rattle.demands.proofs.Unread.{kinds-unread}
@@ -94,6 +95,13 @@ module _ (f : Format) where
   pub size-when : (s : Filter) (c : Call) → OutOfRange (record { value = s .n; from = 1; to = 8 }) → fits c (s .stage) ≡ true → step f s c .reply .refusal ≡ number SIZE
   size-when = states-first f
 
+  -- 10 is given by the flat close alone, and exactly when a correction is open, there are 1 to 8 states and 1 to 4 measurements, the slices are long enough and their numbers finite, and one of the first n kinds is a turn.
+  pub kind-by-flat-alone : (s : Filter) (c : Call) → step f s c .reply .refusal ≡ number KIND → IsFlat c
+  kind-by-flat-alone = kind-only f
+
+  pub kind-when : (s : Filter) (m : ℕ) (z r observed : List Float) → (step f s (closing (close-correction-flat m z r observed)) .reply .refusal ≡ number KIND) ↔ (Measurable s m z r observed × Some IsTurn (take (s .n) (s .kinds)))
+  kind-when = turned-away-exactly f
+
   -- ---- the steps' own numbers: the first result that fails, of those that document 01 lists, in its order
 
   -- Open: each factor entry as it is made, then all points; not stale, an open correction has none.
@@ -110,16 +118,16 @@ module _ (f : Format) where
 
   -- Close correction: z mean, S, x mean, cross covariance, then S's factor entries as made, inverse, gain, y, x, P.
   pub listed-at-correction : (s : Filter) (m : ℕ) (z r : List Float) (kinds : List Kind) (observed : List Float)
-      → planned (plan f s (closing (close-correction m z r kinds observed))) ≡ listedAtCorrection f (measured f s m z r kinds observed)
+      → planned (plan f s (closing (close-correction m z r kinds observed))) ≡ listedAtCorrection f (weightedHeadOf f s m z r kinds observed)
   listed-at-correction = close-correction-lists f
 
   -- The flat close: the same results, of its own means, S and cross covariance.
-  pub listed-at-flat-correction : (s : Filter) (m : ℕ) (z r observed : List Float) → planned (plan f s (closing (close-correction-flat m z r observed))) ≡ listedAtCorrection f (measuredFlat f s m z r observed)
+  pub listed-at-flat-correction : (s : Filter) (m : ℕ) (z r observed : List Float) → planned (plan f s (closing (close-correction-flat m z r observed))) ≡ listedAtCorrection f (flatHeadOf f s m z r observed)
   listed-at-flat-correction = close-correction-flat-lists f
 
-  -- It never gives 6: nothing that it is lent has to pass it.
-  pub flat-correction-never : (s : Filter) (m : ℕ) (z r observed : List Float) → step f s (closing (close-correction-flat m z r observed)) .reply .refusal ≢ number PARAM
-  flat-correction-never s m z r observed = never-param f s (closing (close-correction-flat m z r observed)) refl
+  -- It never gives 4 or 6: stale doesn't stop it, and nothing that it is lent has to pass 6.
+  pub flat-correction-never : (s : Filter) (m : ℕ) (z r observed : List Float) → let k = step f s (closing (close-correction-flat m z r observed)) .reply .refusal in (k ≢ number STALE) × (k ≢ number PARAM)
+  flat-correction-never s m z r observed = let c = closing (close-correction-flat m z r observed) in (never-stale f s c refl, never-param f s c refl)
 
   -- They give 5, 7, 8 and 9 alone;
   pub steps-give-their-own : (s : Filter) (c : Call) (r : Refusal) → FirstFails r (planned (plan f (seen s) c)) → ByStep r

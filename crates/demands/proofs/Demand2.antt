@@ -1,7 +1,8 @@
--- Demand 2: every number is worked out by document 01's steps, bit for bit. The contracts say it: each names one definition, and says that all of the answer is it.
+-- Demand 2: every number is worked out by document 01's steps, and the flat close's by those of document 02, bit for bit. The contracts say it: each names one definition, and says that all of the answer is it.
 -- Here is a line for each step, which function's contract names which definition; under it, where the definition is not the document's own text, a law that it comes to that. Over every format. Assumes nothing.
 use Prim.Native.Nat.{ℕ, _+_, _-_, _*_, _<_, _≤_}
 use mathlib.Core.Path.{_≡_, refl, sym, ap, _∙_}
+use mathlib.Core.Bool.{true, false}
 use mathlib.Core.List.{List}
 use native.Mathlib.Nat.{mul-le-mul}
 use native.Mathlib.Omega.{arith}
@@ -11,7 +12,8 @@ use lib.ListN.{getD}
 use lib.Ieee.{Float, nan, Format, binary64, fits, add, sub, mul, div, ofInt}
 use lib.Ieee.Scale.{finite}
 use Rattle.floats.specs.Refusal.{Refusal, PIVOT, accepted}
-use Rattle.floats.specs.Numbers.{plusZero}
+use Rattle.floats.specs.Numbers.{plusZero, zeros}
+use Rattle.floats.specs.Fronts.{front}
 use Rattle.root.specs.Definition.{rootOf, rooted}
 use Rattle.root.specs.Nearest.{Nearest}
 use Rattle.root.specs.Answer.{answer, Asked}
@@ -30,24 +32,34 @@ use Rattle.matrix.specs.Factor.{factorOf}
 use Rattle.matrix.specs.Inverse.{unitAt, forwardOf, inverseOf}
 use Rattle.matrix.specs.Product.{transbOf}
 use Rattle.matrix.proofs.Cells.{total-same, placed, plus-placed, minus-placed, transb-filled, inverse-filled}
+use Rattle.matrix.proofs.Flat.{row-before}
 use Rattle.matrix.proofs.FactorLaws.{is-factor}
 use Rattle.matrix.proofs.InverseLaws.{forward-at, inverse-at}
 use Rattle.sigma.specs.declared.Params.{Params}
-use Rattle.sigma.specs.Weights.{w0cOf, wiOf, weightsOf}
-use Rattle.sigma.specs.Draw.{pointsOf, drawPlan}
+use Rattle.sigma.specs.Weights.{w0mOf, w0cOf, wiOf, weightsOf}
+use Rattle.sigma.specs.Draw.{pointNumbers, pointsOf, drawPlan}
 use Rattle.sigma.specs.Mean.{meanOf}
-use Rattle.sigma.specs.Spread.{deviationsOf, spreadOf}
+use Rattle.sigma.specs.Spread.{deviationAt, deviationsOf, spreadOf}
 use Rattle.sigma.specs.Predict.{Moment, predictPlan}
 use Rattle.sigma.proofs.Entries.{weight-first, weight-other, point-first, point-plus, point-minus, drawn-filled, mean-placed, deviations-filled, spread-filled}
-use Rattle.correction.specs.Leaves.{innovationAt, innovationOf, shiftedAt, shiftedOf, allPlain}
-use Rattle.correction.specs.Correct.{Head, applyPlan, Given, weightedHead, correctPlan}
-use Rattle.correction.specs.Flat.{flatMeanOf, flatSpreadOf, flatHead, flatPlan}
-use Rattle.correction.proofs.Entries.{flat-mean-placed, flat-spread-filled, through-plain}
-use Rattle.demands.specs.Listed.{state, covariance}
+use Rattle.correction.specs.Leaves.{innovationAt, innovationOf, shiftedAt, shiftedOf, noKinds}
+use Rattle.correction.specs.Correct.{Head, applyPlan, Given, dzOf, weightedHead}
+use Rattle.correction.specs.Flat.{flatSpreadOf, flatHead}
+use Rattle.correction.proofs.Entries.{flat-mean-placed, spread-entry, flat-entry, through-plain}
+use Rattle.filter.specs.declared.Filter.{Filter}
+use Rattle.filter.specs.Filters.{close}
+use Rattle.filter.specs.Calls.{closing, close-prediction, close-correction, close-correction-flat}
+use Rattle.filter.specs.Steps.{step}
+use Rattle.demands.specs.Listed.{innovation, state, covariance, weightedHeadOf, flatHeadOf}
 use Rattle.demands.proofs.Passed.{ran-made}
+use Rattle.demands.proofs.Closed.{prediction-closed, correction-closed, flat-correction-closed}
 
 abbrev at : List Float → ℕ → Float
 at l i = getD l i nan
+
+-- where an entry of k rows of n lies
+cell-before : (i k n j : ℕ) → i < k → j < n → i * n + j < k * n
+cell-before i k n j h l = omega (arith, row-before i k n h)
 
 -- ---- Root: `square_root` (crate root) is `rootOutcome`: `rootOf`, or 5
 
@@ -190,30 +202,85 @@ module _ (f : Format) where
   pub correction-makes : (h : Head) (m : Moment) → run (applyPlan f h) ≡ accepted m → m ≡ record { x = state f h; p = covariance f h }
   correction-makes h m e = ran-made (applyPlan f h) m e
 
-  -- `correct_with_weights_residuals` is `correctPlan`: that of `weightedHead`, whose z mean, S, x mean and cross covariance are the lines above
-  pub weighted-is : (g : Given) → correctPlan f g ≡ applyPlan f (weightedHead f g)
-  weighted-is g = refl
+  -- ---- From where they start. `correct_with_weights_residuals` is `correctPlan`, the shared steps from `weightedHead` on: anchored means; per entry of S, R + the sum of w·dz[i]·dz[j]; of C, the sum of w·dx[i]·dz[j]
 
-  -- ---- The flat close (document 02, A1): `correct_nonlinear` (crate correction) is `flatPlan`: that of `flatHead`, made by `flat_mean`, `deviations` and `flat_spread`
+  module _ (g : Given) (h : g .n ≤ 8) (o : g .m ≤ 8) where
+    abbrev weighted : Head
+    weighted = weightedHead f g
 
-  pub flat-is : (n m : ℕ) (x p points observed z r : List Float) → flatPlan f n m x p points observed z r ≡ applyPlan f (flatHead f n m x p points observed z r)
-  flat-is n m x p points observed z r = refl
+    pub weighted-means : (weighted .zm ≡ meanOf f (g .observed) (g .m) (g .n + g .n) (g .w0m) (g .w) (g .measured)) × (weighted .xm ≡ meanOf f (g .points) (g .n) (g .n + g .n) (g .w0m) (g .w) (g .kinds))
+    weighted-means = (refl, refl)
 
-  -- means: per entry the sum from +0 over all 2n+1 points, divided by 2n+1; t is 2n
-  pub flat-mean-at : (p : List Float) (d t : ℕ) → d ≤ 8 → (i : ℕ) → i < d → at (flatMeanOf f p d t) i ≡ div f (totalOf (add f) plusZero (λ (k : ℕ). at p (k * d + i)) (t + 1)) (ofInt f (pos (t + 1)))
-  flat-mean-at p d t h = flat-mean-placed f p d t h .place
+    pub weighted-s : (i j : ℕ) → i < g .m → j < g .m
+        → at (weighted .s) (i * g .m + j)
+        ≡ add f (at (g .r) (i * g .m + j)) (totalOf (add f) plusZero (λ (k : ℕ). mul f (mul f (at (g .w) k) (deviationAt f (g .observed) (g .m) (weighted .zm) (g .measured) k i)) (deviationAt f (g .observed) (g .m) (weighted .zm) (g .measured) k j)) (g .n + g .n + 1))
+    weighted-s i j k l = let dz = dzOf f g (weighted .zm) in plus-at (g .m) (g .r) (spreadOf f dz (g .m) dz (g .m) (g .w) (g .n + g .n)) o (i * g .m + j) (cell-before i (g .m) (g .m) j k l) ∙ ap (add f _) (spread-entry f (g .observed) (g .m) (weighted .zm) (g .observed) (g .m) (weighted .zm) (g .n + g .n) (omega arith) o o i j k l (g .measured) (g .measured) (g .w))
 
-  -- differences from them: no kinds
-  pub flat-deviation-at : (p : List Float) (d t : ℕ) (mean : List Float) → t < 17 → d ≤ 8 → (k i : ℕ) → k < t + 1 → i < d → at (deviationsOf f p d t mean allPlain) (k * d + i) ≡ sub f (at p (k * d + i)) (at mean i)
-  flat-deviation-at p d t mean g h k i l j = deviation-at p d t mean allPlain g h k i l j ∙ through-plain f i _ (omega arith)
+    pub weighted-c : (i j : ℕ) → i < g .n → j < g .m
+        → at (weighted .c) (i * g .m + j)
+        ≡ totalOf (add f) plusZero (λ (k : ℕ). mul f (mul f (at (g .w) k) (deviationAt f (g .points) (g .n) (weighted .xm) (g .kinds) k i)) (deviationAt f (g .observed) (g .m) (weighted .zm) (g .measured) k j)) (g .n + g .n + 1)
+    weighted-c i j k l = spread-entry f (g .points) (g .n) (weighted .xm) (g .observed) (g .m) (weighted .zm) (g .n + g .n) (omega arith) h o i j k l (g .kinds) (g .measured) (g .w)
 
-  -- S and C: per entry each product of two differences, summed from +0, the sum divided by 2n+1; then R + S, by `plus-at`
-  pub flat-spread-at : (a : List Float) (da : ℕ) (b : List Float) (db t : ℕ) → da ≤ 8 → db ≤ 8 → (i j : ℕ) → i < da → j < db
-      → at (flatSpreadOf f a da b db t) (i * db + j) ≡ div f (totalOf (add f) plusZero (λ (k : ℕ). mul f (at a (k * da + i)) (at b (k * db + j))) (t + 1)) (ofInt f (pos (t + 1)))
-  flat-spread-at a da b db t g h = flat-spread-filled f a da b db t g h .cell
+    -- with the stored x and P, and z with its kinds
+    pub weighted-keeps : (weighted .x ≡ g .x) × (weighted .p ≡ g .p) × (weighted .z ≡ g .z) × (weighted .measured ≡ g .measured)
+    weighted-keeps = (refl, refl, refl, refl)
 
-  -- y = z − z mean
-  pub flat-innovation-at : (m : ℕ) (z mean : List Float) → m ≤ 8 → (j : ℕ) → j < m → at (innovationOf f m z mean allPlain) j ≡ sub f (at z j) (at mean j)
-  flat-innovation-at m z mean h j g = innovation-at m z mean allPlain h j g ∙ through-plain f j _ (omega arith)
+  -- The flat close (document 02, A1). `correct_nonlinear` is `flatPlan`, the shared steps from `flatHead` on: per entry a sum from +0 over all 2n+1 points, divided by 2n+1; no kinds, no weights
 
--- ---- the calls: every method of `Filter` (crate filter) is `step`, by the table in filter/specs/Calls.antt: which of these plans a call runs, on what, and what it installs
+  module _ (n m : ℕ) (x p points observed z r : List Float) (h : n ≤ 8) (o : m ≤ 8) where
+    abbrev flat : Head
+    flat = flatHead f n m x p points observed z r
+
+    abbrev average : (ℕ → Float) → Float
+    average e = div f (totalOf (add f) plusZero e (n + n + 1)) (ofInt f (pos (n + n + 1)))
+
+    -- z mean and x mean
+    pub flat-z-mean : (j : ℕ) → j < m → at (flat .zm) j ≡ average (λ (k : ℕ). at observed (k * m + j))
+    flat-z-mean = flat-mean-placed f observed m (n + n) o .place
+
+    pub flat-x-mean : (i : ℕ) → i < n → at (flat .xm) i ≡ average (λ (k : ℕ). at points (k * n + i))
+    flat-x-mean = flat-mean-placed f points n (n + n) h .place
+
+    -- S and C: each product of two differences rounded, summed, the sum divided; then R + S
+    pub flat-s : (i j : ℕ) → i < m → j < m
+        → at (flat .s) (i * m + j) ≡ add f (at r (i * m + j)) (average (λ (k : ℕ). mul f (sub f (at observed (k * m + i)) (at (flat .zm) i)) (sub f (at observed (k * m + j)) (at (flat .zm) j))))
+    flat-s i j k l = let dz = deviationsOf f observed m (n + n) (flat .zm) noKinds in plus-at m r (flatSpreadOf f dz m dz m (n + n)) o (i * m + j) (cell-before i m m j k l) ∙ ap (add f _) (flat-entry f observed m (flat .zm) observed m (flat .zm) (n + n) (omega arith) o o i j k l)
+
+    pub flat-c : (i j : ℕ) → i < n → j < m → at (flat .c) (i * m + j) ≡ average (λ (k : ℕ). mul f (sub f (at points (k * n + i)) (at (flat .xm) i)) (sub f (at observed (k * m + j)) (at (flat .zm) j)))
+    flat-c i j k l = flat-entry f points n (flat .xm) observed m (flat .zm) (n + n) (omega arith) h o i j k l
+
+    -- y = z − z mean
+    pub flat-y : (j : ℕ) → j < m → at (innovation f flat) j ≡ sub f (at z j) (at (flat .zm) j)
+    flat-y j l = innovation-at m z (flat .zm) noKinds o j l ∙ through-plain f j _ (omega arith)
+
+    -- with the stored x and P
+    pub flat-keeps : (flat .x ≡ x) × (flat .p ≡ p)
+    flat-keeps = (refl, refl)
+
+  -- ---- The calls: every method of `Filter` (crate filter) is `step`, by the table in filter/specs/Calls.antt: which of these plans a call runs, on what, and what it installs
+
+  -- An accepted close sets x and P to what its steps have made, installs the points and the opened weights, sets the mark, and leaves nothing open and scratch at +0 (`close` of filter/specs/Filters.antt):
+  -- a prediction the propagated points, and is not stale;
+  pub prediction-installs : (s : Filter) (v : List Float) → step f s (closing (close-prediction v)) .reply .refusal ≡ 0
+      → step f s (closing (close-prediction v)) .filter
+      ≡ (let points = front (pointNumbers (s .n)) v (zeros 136) in
+      let mean = meanOf f points (s .n) (s .n + s .n) (w0mOf f (s .n) (s .params)) (s .«drawn_weights») (s .kinds) in
+      let dx = deviationsOf f points (s .n) (s .n + s .n) mean (s .kinds) in
+      close s (record {
+        x = mean;
+        p = plusOf f (s .n * s .n) (s .q) (spreadOf f dx (s .n) dx (s .n) (s .«drawn_weights») (s .n + s .n));
+        installed = record { weights = s .«drawn_weights»; points = points };
+        stale = false;
+      }))
+  prediction-installs = prediction-closed f
+
+  -- a correction, of either sort, the opened points, and is stale.
+  pub correction-installs : (s : Filter) (m : ℕ) (z r : List Float) (kinds : List Kind) (observed : List Float) → step f s (closing (close-correction m z r kinds observed)) .reply .refusal ≡ 0
+      → step f s (closing (close-correction m z r kinds observed)) .filter
+      ≡ (let h = weightedHeadOf f s m z r kinds observed in close s (record { x = state f h; p = covariance f h; installed = record { weights = s .«drawn_weights»; points = s .«drawn_points» }; stale = true }))
+  correction-installs = correction-closed f
+
+  pub flat-correction-installs : (s : Filter) (m : ℕ) (z r observed : List Float) → step f s (closing (close-correction-flat m z r observed)) .reply .refusal ≡ 0
+      → step f s (closing (close-correction-flat m z r observed)) .filter
+      ≡ (let h = flatHeadOf f s m z r observed in close s (record { x = state f h; p = covariance f h; installed = record { weights = s .«drawn_weights»; points = s .«drawn_points» }; stale = true }))
+  flat-correction-installs = flat-correction-closed f

@@ -14,7 +14,7 @@ use Rattle.floats.specs.Fronts.{over}
 use Rattle.root.specs.Definition.{rootOf, rooted}
 use Rattle.root.specs.Answer.{rootOutcome}
 use Rattle.angles.specs.Wrap.{wrapOf, wrapStep, wrapped, halfTurn}
-use Rattle.angles.specs.Kinds.{numbersIn, passes, kindOf}
+use Rattle.angles.specs.Kinds.{isPlain, numbersIn, passes, kindOf}
 use Rattle.angles.specs.declared.Kind.{Kind}
 use Rattle.matrix.specs.Results.{Result, good, First, now, later, Plan, run, planned}
 use Rattle.matrix.proofs.Flat.{split}
@@ -22,7 +22,7 @@ use Rattle.floats.proofs.Refusals.{number-above}
 use Rattle.matrix.proofs.Results.{plan-refused}
 use Rattle.sigma.specs.declared.Params.{Params}
 use Rattle.filter.specs.declared.Filter.{Filter}
-use Rattle.filter.specs.Asked.{Asks, within, long, straight, fit, every, guarded}
+use Rattle.filter.specs.Asked.{Asks, within, long, fit, every, guarded}
 use Rattle.filter.specs.Filters.{seen}
 use Rattle.filter.specs.Calls.{Call, asks, Done, plan}
 use Rattle.filter.specs.Steps.{outcome, stepped, step, paramsOf, paramsRead, staleRead}
@@ -178,7 +178,7 @@ module _ (f : Format) (a : Asks) (vs : List Result) where
         (layer (every long (a .lent)) short _ (omega arith) (some long Shorter lent-long (a .lent))
         (layer (not (a .stale)) stale _ (omega arith) (turned (a .stale))
         (layer (allFinite (a .inputs)) Row.number _ (omega arith) (all-finite (a .inputs))
-        (layer (every straight (a .plain)) Row.kind _ (omega arith) (some straight IsTurn is-turn (a .plain))
+        (layer (every isPlain (a .plain)) Row.kind _ (omega arith) (some isPlain IsTurn is-turn (a .plain))
         (layer (every (fit f) (a .params)) Row.param _ (omega arith) (some (fit f) (Unfit f) (fitting f) (a .params))
         (steps-right o i)))))))
 

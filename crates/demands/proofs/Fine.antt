@@ -1,5 +1,5 @@
 -- Each call that is taken on a sound filter installs what is right and hands out finite numbers: a line for each call. Assumes nothing.
-use Prim.Native.Nat.{ℕ, _+_, _*_, _≤_}
+use Prim.Native.Nat.{ℕ, _+_, _-_, _*_, _≤_}
 use mathlib.Core.Path.{_≡_, refl, sym, _∙_}
 use mathlib.Core.Bool.{Bool, true, false, cond}
 use mathlib.Core.List.{List, [], _∷_}
@@ -7,12 +7,14 @@ use native.Mathlib.Nat.{mul-le-mul}
 use native.Mathlib.Omega.{arith}
 use borrow.Author.Tests.{leb-true}
 use lib.Dec.{leb, eqb}
-use lib.ListN.{length, length-set}
+use lib.ListN.{length, set, getD, length-set}
+use lib.Seq.{getD-set-other}
 use lib.Ieee.{Float, Format}
 use lib.Ieee.Scale.{finite}
 use Rattle.floats.specs.Numbers.{zeros, allFinite, aboveZero}
 use Rattle.floats.specs.Fronts.{front}
 use Rattle.floats.proofs.Finite.{all-zeros}
+use Rattle.angles.specs.Kinds.{plain}
 use Rattle.angles.specs.declared.Kind.{Kind}
 use Rattle.matrix.specs.Results.{mapped}
 use Rattle.sigma.specs.declared.Params.{Params}
@@ -27,7 +29,7 @@ use Rattle.filter.specs.declared.Weighted.{Weighted}
 use Rattle.filter.specs.Asked.{fit, by-params, by-kind, inRange, every}
 use Rattle.filter.specs.Filters.{isShut, isPredicting, isCorrecting, seen, Setting, x-set, p-set, q-set, params-set, kinds-set, opened-prediction, opened-correction, Closing, Change, sets, closes, abandons, reads}
 use Rattle.filter.specs.Calls.{set-x, set-p, set-q, set-params, set-kind, open-prediction, open-correction, close-prediction, close-correction, close-correction-flat, read-x, read-p, read-q, read-points, read-params, read-stale, Call, setting, closing, abandon, reading, inKinds, asKinds, asks, Done, opened, closed, draws, plan}
-use Rattle.demands.specs.Listed.{measured, measuredFlat}
+use Rattle.demands.specs.Listed.{weightedHeadOf, flatHeadOf}
 use Rattle.demands.specs.Sound.{Filled, Sound}
 use Rattle.demands.proofs.Passed.{both, Passed, Ran, ran-finish, ran-after, ran-listed, ran-either, ran-mapped}
 use Rattle.demands.proofs.Listed.{drawing, predicting}
@@ -46,7 +48,7 @@ module _ (f : Format) (n : ℕ) where
   FineSetting (p-set v) = Filled (n * n) 64 v
   FineSetting (q-set v) = Filled (n * n) 64 v
   FineSetting (params-set v) = (allFinite (v .alpha ∷ v .beta ∷ v .kappa ∷ []) ≡ true) × (weightsPass f n v ≡ true)
-  FineSetting (kinds-set v) = (allFinite (inKinds v) ≡ true) × (every (fit f) (asKinds v) ≡ true) × (length v ≡ 8)
+  FineSetting (kinds-set v) = (allFinite (inKinds v) ≡ true) × (every (fit f) (asKinds v) ≡ true) × (length v ≡ 8) × ((i : ℕ) → n ≤ i → getD v i plain ≡ plain)
   FineSetting (opened-prediction d) = Laid n d
   FineSetting (opened-correction d) = Laid n d
 
@@ -170,9 +172,13 @@ module _ (f : Format) (s : Filter) (o : Sound f s) where
   fine (setting (set-params p)) h = ran-finish _ _ (record { change = (h .inputs, both {a = fit f (by-params (s .n) p)} (h .params) .0); given = refl })
   fine (setting (set-kind i k)) h =
       ran-finish _ _ (record {
-        change = (kinds-finite k (s .kinds) i (o .kinds) (h .inputs), kinds-fit k f (s .kinds) i (o .turns) (both {a = fit f (by-kind k)} (h .params) .0), length-set (s .kinds) i k ∙ o .eight);
+        change = (kinds-finite k (s .kinds) i (o .kinds) (h .inputs), kinds-fit k f (s .kinds) i (o .turns) (both {a = fit f (by-kind k)} (h .params) .0), length-set (s .kinds) i k ∙ o .eight, past);
         given = refl;
       })
+    where
+      -- the index is a state's
+      past : (j : ℕ) → s .n ≤ j → getD (set (s .kinds) i k) j plain ≡ plain
+      past j l = getD-set-other (s .kinds) i j k plain (λ e. absurd (omega (arith, in-range 1 8 (s .n) (h .sizes .0), in-range 0 (s .n - 1) i (h .sizes .1 .0)))) ∙ o .past j l
   fine (setting (open-prediction b)) h = drawn-fine opened-prediction (λ w a. a) (in-range 1 8 (s .n) (h .sizes .0) .0)
   fine (setting (open-correction b)) h =
       ran-either _ (s .stale) _ _
@@ -184,8 +190,8 @@ module _ (f : Format) (s : Filter) (o : Sound f s) where
       let a = predict-filled f (s .n) points (w0mOf f (s .n) (s .params)) (seen s .«drawn_weights») (s .kinds) (s .q) m e in
       let b = filled-front (pointNumbers (s .n)) 136 v (leb-true _ _ (h .lent .0)) (points-room (s .n) (in-range 1 8 (s .n) (h .sizes .0) .1)) (h .inputs) in
       record { change = (a .0, a .1, open-weighted (predicting-open (s .stage) (h .fits)) points b); given = refl })
-  fine (closing (close-correction m z r kinds observed)) h = corrected-fine (correcting-open (s .stage) (h .fits)) (measured f (seen s) m z r kinds observed) refl
-  fine (closing (close-correction-flat m z r observed)) h = corrected-fine (correcting-open (s .stage) (h .fits)) (measuredFlat f (seen s) m z r observed) refl
+  fine (closing (close-correction m z r kinds observed)) h = corrected-fine (correcting-open (s .stage) (h .fits)) (weightedHeadOf f (seen s) m z r kinds observed) refl
+  fine (closing (close-correction-flat m z r observed)) h = corrected-fine (correcting-open (s .stage) (h .fits)) (flatHeadOf f (seen s) m z r observed) refl
   fine abandon h = ran-finish _ _ (record { change = tt; given = refl })
   fine (reading (read-x b)) h = ran-finish _ _ (record { change = tt; given = o .x .bounded })
   fine (reading (read-p b)) h = ran-finish _ _ (record { change = tt; given = o .p .bounded })

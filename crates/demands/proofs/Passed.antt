@@ -7,13 +7,14 @@ use borrow.Author.Tests.{not-true}
 use lib.ListN.{take}
 use lib.Ieee.{Float, Format}
 use Rattle.floats.specs.Refusal.{Refusal, SIZE, SHORT, STAGE, STALE, NUMBER, PARAM, RANGE, KIND, Outcome, refused, accepted, unless, onward}
+use Rattle.angles.specs.Kinds.{isPlain}
 use Rattle.floats.specs.Numbers.{allFinite}
 use Rattle.matrix.specs.Results
 use Rattle.matrix.specs.Results.{Work, worked, product, then, listed, Plan, finish, after, run, mapped}
 use Rattle.floats.proofs.Refusals.{refused-never}
 use Rattle.matrix.proofs.Results.{whole, plan-accepted}
 use Rattle.matrix.proofs.Mapped.{run-mapped}
-use Rattle.filter.specs.Asked.{Asks, within, long, straight, fit, every, guarded}
+use Rattle.filter.specs.Asked.{Asks, within, long, fit, every, guarded}
 use Rattle.demands.proofs.Rows.{two-ways}
 
 -- ---- tests
@@ -43,7 +44,7 @@ pub record Passed (f : Format) (a : Asks) : Type 0 where
   pub lent : Pass long (a .lent)
   pub stale : a .stale ≡ false
   pub inputs : allFinite (a .inputs) ≡ true
-  pub plain : every straight (a .plain) ≡ true
+  pub plain : every isPlain (a .plain) ≡ true
   pub params : every (fit f) (a .params) ≡ true
 
 -- what holds of every refusal, and of the steps' outcome once all is passed, holds of the whole
@@ -60,7 +61,7 @@ module _ {A : Type 0} (P : Outcome A → Type 0) (never : (r : Refusal) → P (r
       layer (every long (a .lent)) SHORT _ (λ h3.
       layer (not (a .stale)) STALE _ (λ h4.
       layer (allFinite (a .inputs)) NUMBER _ (λ h5.
-      layer (every straight (a .plain)) KIND _ (λ h6.
+      layer (every isPlain (a .plain)) KIND _ (λ h6.
       layer (every (fit f) (a .params)) PARAM _ (λ h7.
       h (record { fits = h1; sizes = pass within (a .sizes) h2; lent = pass long (a .lent) h3; stale = not-true (a .stale) h4; inputs = h5; plain = h6; params = h7 }))))))))
 

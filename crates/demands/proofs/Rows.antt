@@ -15,13 +15,13 @@ use lib.Ieee.Fits.{up-pos}
 use Rattle.floats.specs.Numbers.{plusZero, allFinite, aboveZero}
 use Rattle.root.specs.Definition.{rooted}
 use Rattle.angles.specs.Wrap.{halfTurn}
-use Rattle.angles.specs.Kinds.{isPlain, passes}
+use Rattle.angles.specs.Kinds.{noTurn, isPlain, passes}
 use Rattle.angles.specs.declared.Kind.{Kind}
 use Rattle.angles.specs.declared.Residual.{Residual}
 use Rattle.angles.specs.declared.Residual.the-variants.{Plain, Turn}
 use Rattle.matrix.specs.Results.{Result, numbers, pivot, rooting, good}
 use Rattle.sigma.specs.Weights.{scaleOf, w0mOf, w0cOf, wiOf, weightsPass}
-use Rattle.filter.specs.Asked.{Size, Lent, Param, by-params, by-kind, inRange, within, long, straight, fit, every}
+use Rattle.filter.specs.Asked.{Size, Lent, Param, by-params, by-kind, inRange, within, long, fit, every}
 use Rattle.demands.specs.Rows.{Some, here, there, NotFinite, NotAbove, Below, OutOfRange, Shorter, IsTurn, UnfitTurn, Unfit, Fails}
 
 pub two-ways : {b : Bool} → b ≡ true → b ≡ false → ⊥
@@ -85,11 +85,11 @@ unfolding allFinite
 all-finite [] = always none
 all-finite (x ∷ l) = reworded joined parted (either (itself (finite x)) (all-finite l))
 
-pub is-turn : (k : Kind) → Means (straight k) (IsTurn k)
+pub is-turn : (k : Kind) → Means (isPlain k) (IsTurn k)
 is-turn k = go (k .residual)
   where
-    go : (r : Residual) → Means (isPlain r) ((h : Float) × (r ≡ Turn h))
-    go Plain = always (λ w. two-ways refl (ap isPlain (w .1)))
+    go : (r : Residual) → Means (noTurn r) ((h : Float) × (r ≡ Turn h))
+    go Plain = always (λ w. two-ways refl (ap noTurn (w .1)))
     go (Turn h) = record { fails = λ e. (h, refl); passes = λ e w. two-ways e refl }
 
 pub is-above : (x : Float) → Means (aboveZero x) (NotFinite x ⊎ NotAbove x)

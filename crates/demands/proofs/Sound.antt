@@ -23,7 +23,7 @@ use Rattle.demands.specs.Runs.{tells, told, Alike}
 use Rattle.demands.specs.Sound.{Filled, Sound, Tidy, Reached, made, further, Yielded, fresh-made, stepped-on, put-at-will, handedOut, Each, end, and}
 use Rattle.demands.proofs.Rows.{two-ways}
 use Rattle.demands.proofs.Passed.{both, by-cases, run-cases}
-use Rattle.demands.proofs.Arrays.{all-both, all-parts, filled-front, filled-zeros, filled-all}
+use Rattle.demands.proofs.Arrays.{all-both, all-parts, filled-front, filled-zeros, filled-all, plain-past}
 use Rattle.demands.proofs.Fine.{FineSetting, Fine, FineDone, in-range, square-room, fine}
 
 module _ (f : Format) where
@@ -42,6 +42,7 @@ module _ (f : Format) where
     kinds = refl;
     turns = refl;
     eight = refl;
+    past = λ i l. plain-past 8 i;
     weights = λ e. absurd (two-ways refl e);
     points = λ e. absurd (two-ways refl e);
     drawn-weights = λ e. absurd (two-ways refl e);
@@ -78,18 +79,18 @@ module _ (f : Format) where
   -- ---- changes
 
   set-sound : (s : Filter) (c : Setting) → Sound f s → FineSetting f (s .n) c → Sound f (set s c)
-  set-sound s (x-set v) o g = record { small = o .small; x = g; p = o .p; q = o .q; params = o .params; passed = o .passed; kinds = o .kinds; turns = o .turns; eight = o .eight; weights = o .weights; points = o .points; drawn-weights = o .drawn-weights; drawn-points = o .drawn-points }
-  set-sound s (p-set v) o g = record { small = o .small; x = o .x; p = g; q = o .q; params = o .params; passed = o .passed; kinds = o .kinds; turns = o .turns; eight = o .eight; weights = o .weights; points = o .points; drawn-weights = o .drawn-weights; drawn-points = o .drawn-points }
-  set-sound s (q-set v) o g = record { small = o .small; x = o .x; p = o .p; q = g; params = o .params; passed = o .passed; kinds = o .kinds; turns = o .turns; eight = o .eight; weights = o .weights; points = o .points; drawn-weights = o .drawn-weights; drawn-points = o .drawn-points }
-  set-sound s (params-set v) o g = record { small = o .small; x = o .x; p = o .p; q = o .q; params = g .0; passed = λ e. g .1; kinds = o .kinds; turns = o .turns; eight = o .eight; weights = o .weights; points = o .points; drawn-weights = o .drawn-weights; drawn-points = o .drawn-points }
-  set-sound s (kinds-set v) o g = record { small = o .small; x = o .x; p = o .p; q = o .q; params = o .params; passed = o .passed; kinds = g .0; turns = g .1; eight = g .2; weights = o .weights; points = o .points; drawn-weights = o .drawn-weights; drawn-points = o .drawn-points }
-  set-sound s (opened-prediction d) o g = record { small = o .small; x = o .x; p = o .p; q = o .q; params = o .params; passed = o .passed; kinds = o .kinds; turns = o .turns; eight = o .eight; weights = o .weights; points = o .points; drawn-weights = λ e. g .weights; drawn-points = λ e. g .points }
-  set-sound s (opened-correction d) o g = record { small = o .small; x = o .x; p = o .p; q = o .q; params = o .params; passed = o .passed; kinds = o .kinds; turns = o .turns; eight = o .eight; weights = o .weights; points = o .points; drawn-weights = λ e. g .weights; drawn-points = λ e. g .points }
+  set-sound s (x-set v) o g = record { small = o .small; x = g; p = o .p; q = o .q; params = o .params; passed = o .passed; kinds = o .kinds; turns = o .turns; eight = o .eight; past = o .past; weights = o .weights; points = o .points; drawn-weights = o .drawn-weights; drawn-points = o .drawn-points }
+  set-sound s (p-set v) o g = record { small = o .small; x = o .x; p = g; q = o .q; params = o .params; passed = o .passed; kinds = o .kinds; turns = o .turns; eight = o .eight; past = o .past; weights = o .weights; points = o .points; drawn-weights = o .drawn-weights; drawn-points = o .drawn-points }
+  set-sound s (q-set v) o g = record { small = o .small; x = o .x; p = o .p; q = g; params = o .params; passed = o .passed; kinds = o .kinds; turns = o .turns; eight = o .eight; past = o .past; weights = o .weights; points = o .points; drawn-weights = o .drawn-weights; drawn-points = o .drawn-points }
+  set-sound s (params-set v) o g = record { small = o .small; x = o .x; p = o .p; q = o .q; params = g .0; passed = λ e. g .1; kinds = o .kinds; turns = o .turns; eight = o .eight; past = o .past; weights = o .weights; points = o .points; drawn-weights = o .drawn-weights; drawn-points = o .drawn-points }
+  set-sound s (kinds-set v) o g = record { small = o .small; x = o .x; p = o .p; q = o .q; params = o .params; passed = o .passed; kinds = g .0; turns = g .1; eight = g .2; past = g .3; weights = o .weights; points = o .points; drawn-weights = o .drawn-weights; drawn-points = o .drawn-points }
+  set-sound s (opened-prediction d) o g = record { small = o .small; x = o .x; p = o .p; q = o .q; params = o .params; passed = o .passed; kinds = o .kinds; turns = o .turns; eight = o .eight; past = o .past; weights = o .weights; points = o .points; drawn-weights = λ e. g .weights; drawn-points = λ e. g .points }
+  set-sound s (opened-correction d) o g = record { small = o .small; x = o .x; p = o .p; q = o .q; params = o .params; passed = o .passed; kinds = o .kinds; turns = o .turns; eight = o .eight; past = o .past; weights = o .weights; points = o .points; drawn-weights = λ e. g .weights; drawn-points = λ e. g .points }
 
   changed-sound : (s : Filter) (c : Change) → Sound f s → Fine f (s .n) c → Sound f (changed s c)
   changed-sound s (sets c) o g = set-sound s c o g
-  changed-sound s (closes c) o g = record { small = o .small; x = g .0; p = g .1; q = o .q; params = o .params; passed = o .passed; kinds = o .kinds; turns = o .turns; eight = o .eight; weights = λ e. g .2 .weights; points = λ e. g .2 .points; drawn-weights = λ e. absurd (two-ways refl e); drawn-points = λ e. absurd (two-ways refl e) }
-  changed-sound s abandons o g = record { small = o .small; x = o .x; p = o .p; q = o .q; params = o .params; passed = o .passed; kinds = o .kinds; turns = o .turns; eight = o .eight; weights = o .weights; points = o .points; drawn-weights = λ e. absurd (two-ways refl e); drawn-points = λ e. absurd (two-ways refl e) }
+  changed-sound s (closes c) o g = record { small = o .small; x = g .0; p = g .1; q = o .q; params = o .params; passed = o .passed; kinds = o .kinds; turns = o .turns; eight = o .eight; past = o .past; weights = λ e. g .2 .weights; points = λ e. g .2 .points; drawn-weights = λ e. absurd (two-ways refl e); drawn-points = λ e. absurd (two-ways refl e) }
+  changed-sound s abandons o g = record { small = o .small; x = o .x; p = o .p; q = o .q; params = o .params; passed = o .passed; kinds = o .kinds; turns = o .turns; eight = o .eight; past = o .past; weights = o .weights; points = o .points; drawn-weights = λ e. absurd (two-ways refl e); drawn-points = λ e. absurd (two-ways refl e) }
   changed-sound s reads o g = o
 
   set-tidy : (s : Filter) (c : Setting) → Tidy s → Tidy (set s c)
@@ -137,6 +138,7 @@ module _ (f : Format) where
     kinds = rw (sym (a .kinds)) (o .kinds);
     turns = rw (sym (a .kinds)) (o .turns);
     eight = rw (sym (a .kinds)) (o .eight);
+    past = rw (sym (a .n), sym (a .kinds)) (o .past);
     weights = λ e. absurd (two-ways (a .stale₂) e);
     points = λ e. absurd (two-ways (a .stale₂) e);
     drawn-weights = λ e. absurd (two-ways (ap isShut (a .shut₂)) e);

@@ -1,4 +1,4 @@
--- THE TABLE OF CASES: document 01's numbers to check by hand, C1 to C12, each a name and a test that antt computes. Definitions only.
+-- THE TABLE OF CASES: document 01's numbers to check by hand, C1 to C12, and one run through document 02's flat close, each a name and a test that antt computes. Definitions only.
 use Prim.Native.Nat.{ℕ}
 use Prim.Native.String.{String}
 use mathlib.Core.Bool.{Bool, true, false, _&&_, Bool·beq}
@@ -20,7 +20,7 @@ use Rattle.sigma.specs.Weights.{lambdaOf, scaleOf, w0mOf, w0cOf, wiOf, weightsO
 use Rattle.sigma.specs.Mean.{meanOf}
 use Rattle.correction.specs.Correct.{Head, given, weightedHead}
 use Rattle.filter.specs.declared.Filter.{Filter}
-use Rattle.filter.specs.Calls.{Call, setting, closing, abandon, reading, set-x, set-p, set-kind, open-prediction, open-correction, close-prediction, close-correction, read-points, read-stale}
+use Rattle.filter.specs.Calls.{Call, setting, closing, abandon, reading, set-x, set-p, set-kind, open-prediction, open-correction, close-prediction, close-correction, close-correction-flat, read-points, read-stale}
 use Rattle.filter.specs.New.{newAnswer}
 use Rattle.demands.specs.Listed.{gain}
 use Rattle.demands.specs.Runs.{Told, told}
@@ -112,6 +112,26 @@ story =
     ∷ ("C12 close", (closing (close-prediction (int 179 ∷ minus 171 ∷ int 169 ∷ [])), telling 0 [] (int 179) (int 101) false))
     ∷ []
 
+-- A1 through the calls, on the same filter, by numbers that part from the weighted close's: propagated 5, 4, 0 the points average to 3 and x is 2. Observed 2, 5, −1 average to 2;
+-- S = (0·0 + 3·3 + 3·3)/3 + 10 = 16, C = (2·0 + 1·3 + 3·3)/3 = 4, K = 4/16, y = 6 − 2, so x = 2 + 1 and P = 5 − 1. Then a turn: 5 before 10, and 10
+abbrev pub measuringFlat : Float → Call
+measuringFlat z = closing (close-correction-flat 1 (z ∷ []) (int 10 ∷ []) (int 2 ∷ int 5 ∷ minus 1 ∷ []))
+
+abbrev pub flatStory : List (String × (Call × Told))
+flatStory =
+    ("A1 prediction opened", (setting (open-prediction three), telling 0 (int 2 ∷ int 4 ∷ int 0 ∷ []) (int 2) (int 4) true))
+    ∷ ("A1 prediction closed", (closing (close-prediction (int 5 ∷ int 4 ∷ int 0 ∷ [])), telling 0 [] (int 2) (int 5) false))
+    ∷ ("A1 nothing open", (measuringFlat (int 6), telling 3 [] (int 2) (int 5) false))
+    ∷ ("A1 open", (setting (open-correction three), telling 0 (int 5 ∷ int 4 ∷ int 0 ∷ []) (int 2) (int 5) false))
+    ∷ ("A1 close", (measuringFlat (int 6), telling 0 [] (int 3) (int 4) true))
+    ∷ ("A1 stale", (reading read-stale, marking (int 3) (int 4) true))
+    ∷ ("A1 a turn", (setting (set-kind 0 (record { residual = Turn (int 180) })), telling 0 [] (int 3) (int 4) true))
+    ∷ ("A1 drawn afresh", (setting (open-correction three), telling 0 (int 3 ∷ int 5 ∷ int 1 ∷ []) (int 3) (int 4) true))
+    ∷ ("A1 a number before a turn", (measuringFlat nan, telling 5 [] (int 3) (int 4) true))
+    ∷ ("A1 turned away", (measuringFlat (int 6), telling 10 [] (int 3) (int 4) true))
+    ∷ ("A1 abandoned", (abandon, telling 0 [] (int 3) (int 4) true))
+    ∷ []
+
 abbrev pub agrees : Told → Told → Bool
 agrees t e =
     eqb (t .reply .refusal) (e .reply .refusal)
@@ -158,5 +178,8 @@ leafCases =
 abbrev pub callCases : List (String × Bool)
 callCases = against story (told binary64 at-first (map (λ e. e .1 .0) story))
 
+abbrev pub flatCases : List (String × Bool)
+flatCases = against flatStory (told binary64 at-first (map (λ e. e .1 .0) flatStory))
+
 abbrev pub cases : List (String × Bool)
-cases = leafCases ++ callCases
+cases = leafCases ++ (callCases ++ flatCases)

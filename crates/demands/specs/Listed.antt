@@ -1,4 +1,4 @@
--- The step results that are checked, in running order, as document 01 lists them: open, close prediction, close correction. Definitions only.
+-- The step results that are checked, in running order, as document 01 lists them: open, close prediction, close correction; document 02's flat close has the same list. Definitions only.
 use Prim.Native.Nat.{ℕ, _+_, _*_}
 use mathlib.Core.List.{List, [], _∷_, _++_}
 use lib.ListN.{take}
@@ -35,7 +35,7 @@ module _ (f : Format) where
       let dx = deviationsOf f points n (n + n) mean kinds in
       numbers (take n mean) ∷ numbers (take (n * n) (plusOf f (n * n) q (spreadOf f dx n dx n w (n + n)))) ∷ []
 
-  -- Close correction, from what a close hands to the steps that both share: z mean, S, x mean, cross covariance, then S's factor entries as made, inverse, gain, y, x, P
+  -- Close correction, from the head of either close on: z mean, S, x mean, cross covariance, then S's factor entries as made, inverse, gain, y, x, P
   module _ (h : Head) where
     abbrev pub inverse : List Float
     inverse = inverseOf f (product (factorOf f INNOV (h .s) (h .m))) (h .m)
@@ -66,14 +66,14 @@ module _ (f : Format) where
         ∷ numbers (take (h .n * h .n) covariance)
         ∷ []))
 
--- what the two closes of a correction hand to them, by the filter as seen and the call
+-- from where the shared steps of the two closes start, by the filter as seen and the call
 module _ (f : Format) (s : Filter) where
-  abbrev pub measured : ℕ → List Float → List Float → List Kind → List Float → Head
-  measured m z r kinds observed =
+  abbrev pub weightedHeadOf : ℕ → List Float → List Float → List Kind → List Float → Head
+  weightedHeadOf m z r kinds observed =
       let v = measurement (s .n) m z r observed in
       weightedHead f (given (s .n) m (s .x) (s .p) (s .«drawn_points») (v .observed) (w0mOf f (s .n) (s .params)) (s .«drawn_weights») (v .z) (v .r) (s .kinds) (widened kinds))
 
-  abbrev pub measuredFlat : ℕ → List Float → List Float → List Float → Head
-  measuredFlat m z r observed =
+  abbrev pub flatHeadOf : ℕ → List Float → List Float → List Float → Head
+  flatHeadOf m z r observed =
       let v = measurement (s .n) m z r observed in
       flatHead f (s .n) m (s .x) (s .p) (s .«drawn_points») (v .observed) (v .z) (v .r)

@@ -1,20 +1,23 @@
 -- The table of refusals in document 01's own words (10 is document 02's), and when a number is due. Definitions only.
-use Prim.Native.Nat.{ℕ, _<_}
+use Prim.Native.Nat.{ℕ, _+_, _*_, _<_, _≤_}
 use mathlib.Core.Path.{_≡_}
 use mathlib.Core.Bool.{true, false}
 use mathlib.Core.List.{List, _∷_}
 use mathlib.Core.Logic.{_⊎_, _≢_}
-use lib.ListN.{length}
+use lib.ListN.{length, take}
 use lib.Ieee.{Float, Format, lt, add}
 use lib.Ieee.Scale.{finite}
 use Rattle.floats.specs.Refusal.{Refusal, SIZE, SHORT, STAGE, STALE, NUMBER, PARAM, PIVOT, INNOV, RANGE, KIND}
-use Rattle.floats.specs.Numbers.{plusZero}
+use Rattle.floats.specs.Numbers.{plusZero, allFinite}
 use Rattle.angles.specs.declared.Kind.{Kind}
 use Rattle.angles.specs.declared.Residual.{Residual}
 use Rattle.angles.specs.declared.Residual.the-variants.{Plain, Turn}
 use Rattle.matrix.specs.Results.{Result, numbers, pivot, rooting, refusalOf}
 use Rattle.sigma.specs.Weights.{scaleOf, w0mOf, w0cOf, wiOf}
+use Rattle.filter.specs.declared.Filter.{Filter}
+use Rattle.filter.specs.Filters.{isCorrecting}
 use Rattle.filter.specs.Asked.{Size, Lent, Param, by-params, by-kind, Asks}
+use Rattle.filter.specs.Calls.{Call, setting, closing, abandon, reading, close-prediction, close-correction, close-correction-flat}
 
 -- one of the list has P
 pub data Some {A : Type 0} (P : A → Type 0) : List A → Type 0 where
@@ -119,6 +122,25 @@ ByStep PIVOT = Unit {0}
 ByStep INNOV = Unit {0}
 ByStep RANGE = Unit {0}
 ByStep KIND = ⊥
+
+-- the one call that asks kinds to be plain
+abbrev pub IsFlat : Call → Type 0
+IsFlat (setting c) = ⊥
+IsFlat (closing (close-prediction v)) = ⊥
+IsFlat (closing (close-correction m z r kinds observed)) = ⊥
+IsFlat (closing (close-correction-flat m z r observed)) = Unit {0}
+IsFlat abandon = ⊥
+IsFlat (reading c) = ⊥
+
+-- what a flat close is lent before its kinds count: a correction is open, there are 1 to 8 states and 1 to 4 measurements, the slices are long enough and their numbers finite
+pub record Measurable (s : Filter) (m : ℕ) (z r observed : List Float) : Type 0 where
+  pub correcting : isCorrecting (s .stage) ≡ true
+  pub states : (1 ≤ s .n) × (s .n ≤ 8)
+  pub measurements : (1 ≤ m) × (m ≤ 4)
+  pub long : (m ≤ length z) × (m * m ≤ length r) × ((s .n + s .n + 1) * m ≤ length observed)
+  pub finite-z : allFinite (take m z) ≡ true
+  pub finite-r : allFinite (take (m * m) r) ≡ true
+  pub finite-observed : allFinite (take ((s .n + s .n + 1) * m) observed) ≡ true
 
 -- neither 5 nor 6
 abbrev pub Neither : ℕ → Type 0

@@ -3,9 +3,10 @@ use Prim.Native.Nat.{ℕ, _+_, _-_, _*_, _≤_}
 use mathlib.Core.Path.{_≡_}
 use mathlib.Core.Bool.{true, false}
 use mathlib.Core.List.{List, [], _∷_, _++_}
-use lib.ListN.{length, take, drop}
+use lib.ListN.{length, take, drop, getD}
 use lib.Ieee.{Float, Format}
 use Rattle.floats.specs.Numbers.{zeros, allFinite}
+use Rattle.angles.specs.Kinds.{plain}
 use Rattle.sigma.specs.declared.Params.{Params}
 use Rattle.sigma.specs.Weights.{weightsPass}
 use Rattle.sigma.specs.Draw.{pointNumbers}
@@ -35,6 +36,8 @@ pub record Sound (f : Format) (s : Filter) : Type 0 where
   pub kinds : allFinite (inKinds (s .kinds)) ≡ true
   pub turns : every (fit f) (asKinds (s .kinds)) ≡ true
   pub eight : length (s .kinds) ≡ 8
+  -- those past the states are plain
+  pub past : (i : ℕ) → s .n ≤ i → getD (s .kinds) i plain ≡ plain
   pub weights : s .stale ≡ false → Filled (s .n + s .n + 1) 17 (s .weights)
   pub points : s .stale ≡ false → Filled (pointNumbers (s .n)) 136 (s .points)
   pub drawn-weights : isShut (s .stage) ≡ false → Filled (s .n + s .n + 1) 17 (s .«drawn_weights»)

@@ -21,8 +21,9 @@ use Rattle.filter.specs.declared.Stage.{Stage}
 use Rattle.filter.specs.declared.Stage.the-variants.{Shut, Predicting, Correcting}
 use Rattle.filter.specs.declared.Filter.{Filter}
 use Rattle.filter.specs.declared.Answer.{Answer}
+use Rattle.filter.specs.declared.measurement.Measurement.{Measurement}
 use Rattle.filter.specs.Filters.{isShut, isPredicting, isCorrecting, seen, close}
-use Rattle.filter.specs.Calls.{Call, closing, close-prediction, close-correction, close-correction-flat, Measurement, measurement, closed, plan}
+use Rattle.filter.specs.Calls.{Call, closing, close-prediction, close-correction, close-correction-flat, measurement, closed, plan}
 use Rattle.filter.specs.Steps.{step, answered, closedBy}
 use Rattle.filter.proofs.Taken.{Told, stayed, accepted-as, stopped, made}
 

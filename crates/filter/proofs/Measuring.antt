@@ -1,4 +1,4 @@
--- A measurement as it is lent to the two closes of a correction (specs/Measured.antt): the number that its tests give, and what is taken in where that is 0. Assumes nothing.
+-- A measurement as it is lent to the two closes of a correction (specs/Measurement.antt): the number that its tests give, and what is taken in where that is 0. Assumes nothing.
 use Prim.Native.Nat.{ℕ, _≤_, _*_}
 use mathlib.Core.Path.{_≡_, refl, sym, ap, _∙_}
 use mathlib.Core.Bool.{Bool, true, false, _&&_}
@@ -10,9 +10,9 @@ use lib.Ieee.{Float}
 use Rattle.floats.specs.Refusal.{Outcome, accepted, refusal}
 use Rattle.floats.specs.Numbers.{allFinite}
 use Rattle.filter.specs.Asked.{within, long, every, inOrder, nothing}
-use Rattle.filter.specs.Calls.{sized, observedNumbers, lentMeasured, Measurement, measurement}
-use Rattle.filter.specs.Measured.{lentInOrder, takenIn, unmeasured, measuredAs}
-use Rattle.filter.specs.declared.measured.Measured.{Measured}
+use Rattle.filter.specs.Calls.{sized, observedNumbers, lentMeasured, measurement}
+use Rattle.filter.specs.Measurement.{lentInOrder, takenIn, unmeasured, measured}
+use Rattle.filter.specs.declared.measurement.Measurement.{Measurement}
 use Rattle.filter.proofs.Sizes.{and-left, and-right}
 use Rattle.filter.proofs.Order.{same-number, all-pass, one-fails, alike}
 use Rattle.filter.proofs.Lines.{states-le, measured-le}
@@ -34,14 +34,17 @@ module _ (fits : Bool) (n m : ℕ) (z r observed : List Float) (turns plain pass
   pub lent-number : refusal taking ≡ refusal (lentInOrder fits n m z r observed turns plain passing nothing)
   lent-number = alike refusal refusal (measurement n m z r observed) true refl (λ q. refl) fits sizes longs false finites plain passing
 
+  pub lent-told : measured taking .refusal ≡ refusal taking
+  lent-told = alike (λ (o : Outcome Measurement). measured o .refusal) refusal (measurement n m z r observed) (measurement n m z r observed) refl (λ q. refl) fits sizes longs false finites plain passing
+
   -- the tests as the code makes them: past the sizes they need only be right where those pass
   pub lent-tested : {size long' finite : Bool} {q : ℕ} → q ≡ refusal (inOrder fits size long' false finite plain passing nothing) → size ≡ sizes → (sizes ≡ true → long' ≡ longs) → (sizes ≡ true → finite ≡ finites) → q ≡ refusal taking
   lent-tested {size} {long'} {finite} e s l t = e ∙ same-number fits size long' false finite plain passing fits sizes longs false finites plain passing refl s l refl t refl (λ h k. refl) ∙ sym lent-number
 
-  pub lent-refused : (refusal taking ≡ 0 → ⊥) → measuredAs taking ≡ unmeasured (refusal taking)
+  pub lent-refused : (refusal taking ≡ 0 → ⊥) → measured taking ≡ unmeasured (refusal taking)
   lent-refused h =
       let q = one-fails fits sizes longs false finites plain passing (accepted (measurement n m z r observed)) (λ e. h (lent-number ∙ e)) in
-      ap measuredAs (q .1) ∙ ap (λ (o : Outcome Measurement). unmeasured (refusal o)) (sym (q .1))
+      ap measured (q .1) ∙ ap (λ (o : Outcome Measurement). unmeasured (refusal o)) (sym (q .1))
 
   module _ (h : refusal taking ≡ 0) where
     lent-passed : (fits ≡ true) × (sizes ≡ true) × (longs ≡ true) × (false ≡ false) × (finites ≡ true) × (plain ≡ true) × (passing ≡ true)
@@ -63,12 +66,12 @@ module _ (fits : Bool) (n m : ℕ) (z r observed : List Float) (turns plain pass
 
 -- ---- as a close has it: v is what was taken in
 
-pub record Lent (fits : Bool) (n m : ℕ) (z r observed : List Float) (turns plain passing : Bool) (v : Measured) : Type 0 where
-  pub is : v ≡ measuredAs (takenIn fits n m z r observed turns plain passing)
+pub record Lent (fits : Bool) (n m : ℕ) (z r observed : List Float) (turns plain passing : Bool) (v : Measurement) : Type 0 where
+  pub is : v ≡ measured (takenIn fits n m z r observed turns plain passing)
 
-module _ {fits : Bool} {n m : ℕ} {z r observed : List Float} {turns plain passing : Bool} {v : Measured} (l : Lent fits n m z r observed turns plain passing v) where
+module _ {fits : Bool} {n m : ℕ} {z r observed : List Float} {turns plain passing : Bool} {v : Measurement} (l : Lent fits n m z r observed turns plain passing v) where
   number-is : v .refusal ≡ refusal (takenIn fits n m z r observed turns plain passing)
-  number-is = ap (λ (u : Measured). u .refusal) (l .is)
+  number-is = ap (λ (u : Measurement). u .refusal) (l .is) ∙ lent-told fits n m z r observed turns plain passing
 
   pub number-in-order : v .refusal ≡ refusal (lentInOrder fits n m z r observed turns plain passing nothing)
   number-in-order = number-is ∙ lent-number fits n m z r observed turns plain passing
@@ -77,5 +80,5 @@ module _ {fits : Bool} {n m : ℕ} {z r observed : List Float} {turns plain pass
     pub sizes-in : (n ≤ 8) × (m ≤ 4)
     sizes-in = lent-sizes fits n m z r observed turns plain passing (sym number-is ∙ h)
 
-    pub taken-in : v ≡ measuredAs (accepted (measurement n m z r observed))
-    taken-in = l .is ∙ ap measuredAs (lent-in fits n m z r observed turns plain passing (sym number-is ∙ h))
+    pub taken-in : v ≡ measurement n m z r observed
+    taken-in = l .is ∙ ap measured (lent-in fits n m z r observed turns plain passing (sym number-is ∙ h))

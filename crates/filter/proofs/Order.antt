@@ -6,8 +6,9 @@ use mathlib.Core.Bool.{Bool, true, false}
 use mathlib.Core.List.{[]}
 use lib.Ieee.{Format}
 use Rattle.floats.specs.Refusal.{Refusal, SIZE, SHORT, STAGE, STALE, NUMBER, KIND, PARAM, number, Outcome, refused, accepted, refusal}
+use Rattle.angles.specs.Kinds.{isPlain}
 use Rattle.floats.specs.Numbers.{allFinite}
-use Rattle.filter.specs.Asked.{Asks, within, long, straight, fit, every, inOrder, guarded, nothing, firstRefusal}
+use Rattle.filter.specs.Asked.{Asks, within, long, fit, every, inOrder, guarded, nothing, firstRefusal}
 
 -- ---- over any seven tests
 
@@ -66,7 +67,7 @@ pub record Passed (f : Format) (a : Asks) : Type 0 where
   pub long : every long (a .lent) ≡ true
   pub stale : a .stale ≡ false
   pub finite : allFinite (a .inputs) ≡ true
-  pub plain : every straight (a .plain) ≡ true
+  pub plain : every isPlain (a .plain) ≡ true
   pub passing : every (fit f) (a .params) ≡ true
 
 -- the number that the code's tests have given
@@ -76,14 +77,14 @@ pub record Gives (f : Format) (a : Asks) : Type 0 where
 
 module _ (f : Format) (a : Asks) where
   -- the tests as the code makes them: past the sizes they need only be right where those pass, and that for 6 where 5 passes too
-  pub tested : {fits sized long' stale finite plain passing : Bool} {r : ℕ} → r ≡ refusal (inOrder fits sized long' stale finite plain passing nothing) → fits ≡ a .fits → sized ≡ every within (a .sizes) → (every within (a .sizes) ≡ true → long' ≡ every long (a .lent)) → stale ≡ a .stale → (every within (a .sizes) ≡ true → finite ≡ allFinite (a .inputs)) → plain ≡ every straight (a .plain) → (every within (a .sizes) ≡ true → allFinite (a .inputs) ≡ true → passing ≡ every (fit f) (a .params)) → r ≡ firstRefusal f a
+  pub tested : {fits sized long' stale finite plain passing : Bool} {r : ℕ} → r ≡ refusal (inOrder fits sized long' stale finite plain passing nothing) → fits ≡ a .fits → sized ≡ every within (a .sizes) → (every within (a .sizes) ≡ true → long' ≡ every long (a .lent)) → stale ≡ a .stale → (every within (a .sizes) ≡ true → finite ≡ allFinite (a .inputs)) → plain ≡ every isPlain (a .plain) → (every within (a .sizes) ≡ true → allFinite (a .inputs) ≡ true → passing ≡ every (fit f) (a .params)) → r ≡ firstRefusal f a
   unfolding firstRefusal
-  tested {fits} {sized} {long'} {stale} {finite} {plain} {passing} e e₁ e₂ e₃ e₄ e₅ e₆ e₇ = e ∙ same-number fits sized long' stale finite plain passing (a .fits) (every within (a .sizes)) (every long (a .lent)) (a .stale) (allFinite (a .inputs)) (every straight (a .plain)) (every (fit f) (a .params)) e₁ e₂ e₃ e₄ e₅ e₆ e₇
+  tested {fits} {sized} {long'} {stale} {finite} {plain} {passing} e e₁ e₂ e₃ e₄ e₅ e₆ e₇ = e ∙ same-number fits sized long' stale finite plain passing (a .fits) (every within (a .sizes)) (every long (a .lent)) (a .stale) (allFinite (a .inputs)) (every isPlain (a .plain)) (every (fit f) (a .params)) e₁ e₂ e₃ e₄ e₅ e₆ e₇
 
   pub passed : firstRefusal f a ≡ 0 → Passed f a
   unfolding firstRefusal
   passed e =
-      let t = all-pass (a .fits) (every within (a .sizes)) (every long (a .lent)) (a .stale) (allFinite (a .inputs)) (every straight (a .plain)) (every (fit f) (a .params)) e in
+      let t = all-pass (a .fits) (every within (a .sizes)) (every long (a .lent)) (a .stale) (allFinite (a .inputs)) (every isPlain (a .plain)) (every (fit f) (a .params)) e in
       record { fits = t .0; sized = t .1; long = t .2; stale = t .3; finite = t .4; plain = t .5; passing = t .6 }
 
   module _ {A : Type 0} (o : Outcome A) where
@@ -93,11 +94,11 @@ module _ (f : Format) (a : Asks) where
 
     pub refuses : (firstRefusal f a ≡ 0 → ⊥) → (r : Refusal) × (guarded f a o ≡ refused r) × (number r ≡ firstRefusal f a)
     unfolding firstRefusal
-    refuses h = one-fails (a .fits) (every within (a .sizes)) (every long (a .lent)) (a .stale) (allFinite (a .inputs)) (every straight (a .plain)) (every (fit f) (a .params)) o h
+    refuses h = one-fails (a .fits) (every within (a .sizes)) (every long (a .lent)) (a .stale) (allFinite (a .inputs)) (every isPlain (a .plain)) (every (fit f) (a .params)) o h
 
   pub both-ways : {A B C : Type 0} (g : Outcome A → C) (h : Outcome B → C) (x : A) (y : B) → g (accepted x) ≡ h (accepted y) → ((r : Refusal) → g (refused r) ≡ h (refused r)) → g (guarded f a (accepted x)) ≡ h (guarded f a (accepted y))
   unfolding guarded
-  both-ways g h x y e d = alike g h x y e d (a .fits) (every within (a .sizes)) (every long (a .lent)) (a .stale) (allFinite (a .inputs)) (every straight (a .plain)) (every (fit f) (a .params))
+  both-ways g h x y e d = alike g h x y e d (a .fits) (every within (a .sizes)) (every long (a .lent)) (a .stale) (allFinite (a .inputs)) (every isPlain (a .plain)) (every (fit f) (a .params))
 
   pub number-given : {A : Type 0} (x : A) → refusal (guarded f a (accepted x)) ≡ firstRefusal f a
   unfolding firstRefusal

@@ -52,9 +52,6 @@ within s = inRange (s .from) (s .to) (s .value)
 abbrev pub long : Lent → Bool
 long l = leb (l .needs) (length (l .slice))
 
-abbrev pub straight : Kind → Bool
-straight k = isPlain (k .residual)
-
 abbrev pub fit : Format → Param → Bool
 fit f (by-params n p) = weightsPass f n p
 fit f (by-kind k) = passes f (k .residual)
@@ -82,7 +79,7 @@ inOrder fits sized long stale finite plain passing o =
 
 unfoldable pub guarded : {A : Type 0} → Format → Asks → Outcome A → Outcome A
 unfolding inOrder
-guarded f a o = inOrder (a .fits) (every within (a .sizes)) (every long (a .lent)) (a .stale) (allFinite (a .inputs)) (every straight (a .plain)) (every (fit f) (a .params)) o
+guarded f a o = inOrder (a .fits) (every within (a .sizes)) (every long (a .lent)) (a .stale) (allFinite (a .inputs)) (every isPlain (a .plain)) (every (fit f) (a .params)) o
 
 -- the number that these tests give by themselves, 0 where all pass
 abbrev pub nothing : Outcome Bool

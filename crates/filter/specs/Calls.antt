@@ -4,6 +4,7 @@ use mathlib.Core.Bool.{Bool, true, false, not, cond}
 use mathlib.Core.List.{List, [], _∷_, _++_}
 use lib.ListN.{take, set}
 use lib.Ieee.{Float, Format}
+use Rattle.floats.specs.Refusal.{taken}
 use Rattle.floats.specs.Numbers.{zeros}
 use Rattle.floats.specs.Fronts.{front}
 use Rattle.angles.specs.Kinds.{numbersIn}
@@ -20,6 +21,7 @@ use Rattle.filter.specs.declared.Stage.{Stage}
 use Rattle.filter.specs.declared.Stage.the-variants.{Shut, Predicting, Correcting}
 use Rattle.filter.specs.declared.Weighted.{Weighted}
 use Rattle.filter.specs.declared.Filter.{Filter}
+use Rattle.filter.specs.declared.measurement.Measurement.{Measurement}
 use Rattle.filter.specs.Asked.{Size, Lent, Param, by-params, by-kind, Asks}
 use Rattle.filter.specs.Filters.{isShut, isPredicting, isCorrecting, Setting, x-set, p-set, q-set, params-set, kinds-set, opened-prediction, opened-correction, Change, sets, closes, abandons, reads}
 
@@ -91,13 +93,13 @@ pub record Needs : Type 0 where
   pub plain : List Kind
   pub params : List Param
 
--- a line of the table of calls; it asks no kind to be plain,
+-- a line of the table of calls that asks no kind to be plain
 abbrev pub needing : List Size → List Lent → Bool → List Float → List Param → Needs
 needing sizes lent stale inputs params = record { sizes = sizes; lent = lent; stale = stale; inputs = inputs; plain = []; params = params }
 
--- but for these
-abbrev pub allStraight : List Kind → Needs → Needs
-allStraight kinds a = record { sizes = a .sizes; lent = a .lent; stale = a .stale; inputs = a .inputs; plain = kinds; params = a .params }
+-- the same, and that these kinds be plain
+abbrev pub needingPlain : List Kind → Needs → Needs
+needingPlain kinds a = record { sizes = a .sizes; lent = a .lent; stale = a .stale; inputs = a .inputs; plain = kinds; params = a .params }
 
 -- the numbers of 2n+1 observed points of m
 abbrev pub observedNumbers : ℕ → ℕ → ℕ
@@ -108,13 +110,8 @@ abbrev pub lentMeasured : ℕ → ℕ → List Float → List Float → List Flo
 lentMeasured n m z r observed = lend z m ++ (lend r (m * m) ++ lend observed (observedNumbers n m))
 
 -- the same as the steps take it: the front of each slice, +0 past it
-pub record Measurement : Type 0 where
-  pub z : List Float
-  pub r : List Float
-  pub observed : List Float
-
 abbrev pub measurement : ℕ → ℕ → List Float → List Float → List Float → Measurement
-measurement n m z r observed = record { z = front m z (zeros 8); r = front (m * m) r (zeros 64); observed = front (observedNumbers n m) observed (zeros 136) }
+measurement n m z r observed = record { refusal = taken; z = front m z (zeros 8); r = front (m * m) r (zeros 64); observed = front (observedNumbers n m) observed (zeros 136) }
 
 abbrev pub needs : Filter → Call → Needs
 needs s (setting (set-x v)) = needing [] (lend v (s .n)) false (take (s .n) v) []
@@ -132,7 +129,7 @@ needs s (closing (close-correction m z r kinds observed)) =
     (take m z ++ (take (m * m) r ++ (inKinds (take m kinds) ++ take (observedNumbers (s .n) m) observed)))
     (asKinds (take m kinds))
 needs s (closing (close-correction-flat m z r observed)) =
-    allStraight (take (s .n) (s .kinds))
+    needingPlain (take (s .n) (s .kinds))
     (needing (sized m 1 4)
     (lentMeasured (s .n) m z r observed)
     false

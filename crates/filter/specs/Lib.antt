@@ -2,7 +2,7 @@
 pub mod Asked
 pub mod Filters
 pub mod Calls
-pub mod Measured
+pub mod Measurement
 pub mod Steps
 pub mod New
 pub mod Point

@@ -7,7 +7,7 @@ use crate::Answer;
 use crate::Filter;
 use crate::drawn;
 use crate::fronts;
-use crate::measured;
+use crate::measurement;
 use crate::tests;
 use angles::Kind;
 use correction::flat;
@@ -80,7 +80,7 @@ impl Filter {
         let correcting = tests::is_correcting(stage);
         let turns_finite = tests::no_kind_refused(m, kinds, 5);
         let passing = tests::no_kind_refused(m, kinds, 6);
-        let lent = measured::take_in(
+        let lent = measurement::take_in(
             correcting,
             n,
             m,
@@ -124,7 +124,7 @@ impl Filter {
         self.close(made, points, true)
     }
 
-    // By flat averages: the weights are not used, and none of the first n state kinds may be a turn.
+    // By flat averages: they know neither weights nor kinds, so none of the first n state kinds may be a turn. What was opened is installed all the same, its weights too.
     pub fn close_correction_flat(self, m: usize, z: &[f64], r: &[f64], observed: &[f64]) -> Answer
         ensures { λ a. ⌜ a ≡ answered (step binary64 self (closing (close-correction-flat m (now (z .entry)) (now (r .entry)) (now (observed .entry))))) ⌝ }
     {
@@ -133,7 +133,7 @@ impl Filter {
         let correcting = tests::is_correcting(stage);
         let kinds = self.kinds;
         let plain = tests::all_plain(n, kinds);
-        let lent = measured::take_in(correcting, n, m, z, r, observed, true, plain, true);
+        let lent = measurement::take_in(correcting, n, m, z, r, observed, true, plain, true);
         if lent.refusal != 0 {
             return Answer {
                 filter: self,

@@ -5,7 +5,7 @@ use sigma::Params;
 pub mod closes;
 mod drawn;
 mod fronts;
-mod measured;
+mod measurement;
 pub mod new;
 pub mod opens;
 pub mod point;

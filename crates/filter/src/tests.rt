@@ -8,8 +8,9 @@ ghost use lib.ListN.{take};
 ghost use lib.Ieee.{binary64};
 ghost use Rattle.floats.specs.Refusal.{refusal};
 ghost use Rattle.floats.specs.Numbers.{allFinite};
+ghost use Rattle.angles.specs.Kinds.{isPlain};
 ghost use Rattle.sigma.specs.Weights.{weightsPass};
-ghost use Rattle.filter.specs.Asked.{inRange, long, straight, clear, every, inOrder, nothing, firstRefusal};
+ghost use Rattle.filter.specs.Asked.{inRange, long, clear, every, inOrder, nothing, firstRefusal};
 ghost use Rattle.filter.specs.Filters.{isShut, isPredicting, isCorrecting};
 ghost use Rattle.filter.specs.Calls.{line, lend, observedNumbers};
 use crate::Stage;
@@ -184,7 +185,7 @@ pub fn no_kind_refused(m: usize, kinds: [Kind; 4], number: u8) -> bool
 
 // Whether the kind is no turn.
 fn is_plain(k: Kind) -> bool
-    ensures { λ r. ⌜ r ≡ straight k ⌝ }
+    ensures { λ r. ⌜ r ≡ isPlain k ⌝ }
 {
     let residual = k.residual;
     match residual {
@@ -195,7 +196,7 @@ fn is_plain(k: Kind) -> bool
 
 // Whether none of the first n state kinds is a turn.
 pub fn all_plain(n: usize, kinds: [Kind; 8]) -> bool
-    ensures { λ r. ⌜ r ≡ every straight (take n kinds) ⌝ }
+    ensures { λ r. ⌜ r ≡ every isPlain (take n kinds) ⌝ }
 {
     let mut i = 0usize;
     while i < n {

@@ -1,4 +1,4 @@
--- The refusals of documents 01 and 02, their numbers, and what a call or a step comes to. Definitions only.
+-- The nine refusals of document 01 and, so far, one of document 02, their numbers, and what a call or a step comes to. Definitions only.
 use Prim.Native.Nat.{ℕ}
 use mathlib.Core.Bool.{Bool, cond}
 

@@ -4,7 +4,7 @@ use borrow.Author.Needs.{needs}
 use native.Mathlib.Omega.{arith}
 use lib.Ieee.{binary64}
 use Rattle.sigma.proofs.Flat.{cells-in}
-use Rattle.correction.specs.Leaves.{allPlain}
+use Rattle.correction.specs.Leaves.{noKinds}
 use Rattle.correction.specs.Correct.{Head}
 use Rattle.correction.specs.Flat.{flatHead}
 use Rattle.correction.proofs.Entries.{from-head}
@@ -24,7 +24,7 @@ returns c =
     let z = p .before .before .before .before .before in
     let y = z .before .before in
     let a = y .before .args in
-    let made : Head = record { n = a .n; m = a .m; x = a .x .now; p = a .p .now; z = a .z .now; measured = allPlain; zm = y .flat-mean .result; s = p .plus .result; xm = x .before .before .before .before .before .flat-mean2 .result; c = x .flat-spread2 .result } in
+    let made : Head = record { n = a .n; m = a .m; x = a .x .now; p = a .p .now; z = a .z .now; measured = noKinds; zm = y .flat-mean .result; s = p .plus .result; xm = x .before .before .before .before .before .flat-mean2 .result; c = x .flat-spread2 .result } in
     let is : made ≡ flatHead binary64 (a .n) (a .m) (a .x .now) (a .p .now) (a .points .now) (a .observed .now) (a .z .now) (a .r .now) =
     rw (
       ← y .flat-mean .ensures,

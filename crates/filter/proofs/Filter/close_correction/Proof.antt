@@ -13,7 +13,7 @@ use Rattle.sigma.specs.Predict.{moments}
 use Rattle.correction.specs.Leaves.{widened}
 use Rattle.correction.specs.Correct.{given, correctPlan, correctOf}
 use Rattle.filter.specs.Calls.{Call, closing, close-correction, inKinds, observedNumbers, measurement}
-use Rattle.filter.specs.declared.measured.Measured.{Measured}
+use Rattle.filter.specs.declared.measurement.Measurement.{Measurement}
 use Rattle.filter.proofs.KindTests.{all-clear, all-pass}
 use Rattle.filter.proofs.Order.{tested}
 use Rattle.filter.proofs.Lines.{finite-third, third-finite}
@@ -56,7 +56,7 @@ made-is c =
     let a = start (went c .before .before) .args in
     let s = a .self in
     c .correct-with-weights-residuals .ensures
-    ∙ ap₂ (λ (v : Measured) (w : Float). moments (correctOf binary64 (given (s .n) (a .m) (s .x) (s .p) (s .«drawn_points») (v .observed) w (s .«drawn_weights») (v .z) (v .r) (s .kinds) (widened (a .kinds))))) (taken-in (lent (went c .before .before)) (went c .if1 .left)) (c .before .before .before .before .before .before .before .before .before .before .before .before .before .center-weight .ensures)
+    ∙ ap₂ (λ (v : Measurement) (w : Float). moments (correctOf binary64 (given (s .n) (a .m) (s .x) (s .p) (s .«drawn_points») (v .observed) w (s .«drawn_weights») (v .z) (v .r) (s .kinds) (widened (a .kinds))))) (taken-in (lent (went c .before .before)) (went c .if1 .left)) (c .before .before .before .before .before .before .before .before .before .before .before .before .before .center-weight .ensures)
 
 returns-2 : tie.Need-returns-2
 returns-2 c =

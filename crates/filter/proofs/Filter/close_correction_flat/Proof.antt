@@ -8,7 +8,7 @@ use Rattle.matrix.specs.Results.{run}
 use Rattle.sigma.specs.Predict.{moments}
 use Rattle.correction.specs.Flat.{flatOf}
 use Rattle.filter.specs.Calls.{Call, closing, close-correction-flat, measurement}
-use Rattle.filter.specs.declared.measured.Measured.{Measured}
+use Rattle.filter.specs.declared.measurement.Measurement.{Measurement}
 use Rattle.filter.proofs.Sizes.{and-true}
 use Rattle.filter.proofs.Order.{tested}
 use Rattle.filter.proofs.Taken.{Told, turned-away, all-passed}
@@ -38,7 +38,7 @@ made-is c =
     let a = start (went c .before .before) .args in
     let s = a .self in
     c .correct-nonlinear .ensures
-    ∙ ap (λ (v : Measured). moments (flatOf binary64 (s .n) (a .m) (s .x) (s .p) (s .«drawn_points») (v .observed) (v .z) (v .r))) (taken-in (lent (went c .before .before)) (went c .if1 .left))
+    ∙ ap (λ (v : Measurement). moments (flatOf binary64 (s .n) (a .m) (s .x) (s .p) (s .«drawn_points») (v .observed) (v .z) (v .r))) (taken-in (lent (went c .before .before)) (went c .if1 .left))
 
 returns-2 : tie.Need-returns-2
 returns-2 c =

@@ -4,14 +4,13 @@ use mathlib.Core.Path.{sym, _∙_}
 use native.Mathlib.Omega.{arith}
 use borrow.Author.Needs.{needs}
 use borrow.Author.Tests.{not-true, not-false}
-use Rattle.angles.specs.Kinds.{plain}
-use Rattle.filter.specs.Asked.{straight}
+use Rattle.angles.specs.Kinds.{isPlain, plain}
 use Rattle.filter.proofs.KindTests.{Passed, passed-none, passed-more, passed-bad, passed-over, passed-end}
 use Rattle.filter.proofs.tests.all_plain.Statement.{statement}
 use Rattle.filter.proofs.tests.all_plain.Tie as tie
 
 abbrev Inv-loop : tie.InvT-loop
-Inv-loop n kinds i₀ i = (i ≤ n) × Passed straight kinds i
+Inv-loop n kinds i₀ i = (i ≤ n) × Passed isPlain kinds i
 
 abbrev μ-loop : tie.MeasureT-loop
 μ-loop n kinds i₀ i = n - i

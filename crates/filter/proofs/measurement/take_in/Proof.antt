@@ -1,4 +1,4 @@
--- `measured::take_in` meets its contract: each test is right once the sizes are, and then the slices hold what is taken in. Assumes nothing.
+-- `measurement::take_in` meets its contract: each test is right once the sizes are, and then the slices hold what is taken in. Assumes nothing.
 use Prim.Native.Nat.{ℕ, _≤_, _*_}
 use mathlib.Core.Path.{_≡_, sym, ap, ap₂, _∙_}
 use mathlib.Core.Bool.{Bool, _&&_}
@@ -11,13 +11,14 @@ use Rattle.floats.specs.Refusal.{Outcome, refusal}
 use Rattle.floats.specs.Numbers.{zeros, allFinite}
 use Rattle.floats.specs.Fronts.{front}
 use Rattle.filter.specs.Asked.{long, every}
-use Rattle.filter.specs.Calls.{sized, lend, observedNumbers, Measurement}
-use Rattle.filter.specs.Measured.{takenIn, unmeasured, measuredAs}
+use Rattle.filter.specs.Calls.{sized, lend, observedNumbers}
+use Rattle.filter.specs.declared.measurement.Measurement.{Measurement}
+use Rattle.filter.specs.Measurement.{takenIn, unmeasured, measured}
 use Rattle.filter.proofs.Sizes.{and-true, within-8, within-both, square-le, numbers-le}
 use Rattle.filter.proofs.Lines.{states-le, measured-le}
 use Rattle.filter.proofs.Measuring.{lent-tested, lent-refused, lent-in, lent-sizes, lent-long}
-use Rattle.filter.proofs.measured.take_in.Statement.{statement}
-use Rattle.filter.proofs.measured.take_in.Tie as tie
+use Rattle.filter.proofs.measurement.take_in.Statement.{statement}
+use Rattle.filter.proofs.measurement.take_in.Tie as tie
 
 -- what the call comes to
 abbrev taking : tie.Start → Outcome Measurement
@@ -84,7 +85,7 @@ returns-2 c =
     let r = c .before .matrix .ensures ∙ ap (λ (j : ℕ). front j (now (a .r)) (zeros 64)) (squared (d .before) (in-reach d .1)) in
     let o = c .points .ensures ∙ ap (λ (j : ℕ). front j (now (a .observed)) (zeros 136)) (counted (d .before) (in-reach d .0) (in-reach d .1)) in
     rw (c .before .before .vector .ensures, r, o)
-    (sym (ap measuredAs (lent-in (a .fits) (a .n) (a .m) (now (a .z)) (now (a .r)) (now (a .observed)) (a .turns) (a .plain) (a .passing) (taken d))))
+    (sym (ap measured (lent-in (a .fits) (a .n) (a .m) (now (a .z)) (now (a .r)) (now (a .observed)) (a .turns) (a .plain) (a .passing) (taken d))))
 
 pub take-in-spec : {M : Type 1} → statement M
 take-in-spec =

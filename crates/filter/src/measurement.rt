@@ -1,11 +1,11 @@
-// A measurement as the two closes of a correction are lent it: tested, and taken into arrays.
+// The measurement that a close of a correction is lent: tested, and taken into arrays.
 ghost use mathlib.Core.Path.{_≡_};
-ghost use Rattle.filter.specs.Measured.{takenIn, unmeasured, measuredAs};
+ghost use Rattle.filter.specs.Measurement.{takenIn, unmeasured, measured};
 use crate::fronts;
 use crate::tests;
 
 // The number, and z, R and the observed points, +0 where it is refused.
-pub struct Measured {
+pub struct Measurement {
     pub refusal: u8,
     pub z: [f64; 8],
     pub r: [f64; 64],
@@ -13,10 +13,10 @@ pub struct Measured {
 }
 
 // A refused one.
-fn refuse(refusal: u8) -> Measured
+fn refuse(refusal: u8) -> Measurement
     ensures { λ q. ⌜ q ≡ unmeasured refusal ⌝ }
 {
-    Measured {
+    Measurement {
         refusal,
         z: [0.0; 8],
         r: [0.0; 64],
@@ -35,8 +35,8 @@ pub fn take_in(
     turns: bool,
     plain: bool,
     passing: bool,
-) -> Measured
-    ensures { λ q. ⌜ q ≡ measuredAs (takenIn fits n m (now (z .entry)) (now (r .entry)) (now (observed .entry)) turns plain passing) ⌝ }
+) -> Measurement
+    ensures { λ q. ⌜ q ≡ measured (takenIn fits n m (now (z .entry)) (now (r .entry)) (now (observed .entry)) turns plain passing) ⌝ }
 {
     let states = tests::is_sized(n);
     let measurements = tests::in_range(1, 4, m);
@@ -50,7 +50,7 @@ pub fn take_in(
     if refusal != 0 {
         return refuse(refusal);
     }
-    Measured {
+    Measurement {
         refusal: 0,
         z: fronts::vector(z, m),
         r: fronts::matrix(r, mm),

@@ -1,4 +1,4 @@
--- What the two closes of a correction are lent, as the code takes it in: tested in the order of the refusals beside what else the close asks, and laid out in arrays. Definitions only.
+-- The measurement that a close of a correction is lent, as the code takes it in: tested in the order of the refusals beside what else the close asks, and laid out in arrays. Definitions only.
 use Prim.Native.Nat.{ℕ, _*_}
 use mathlib.Core.Bool.{Bool, false, _&&_}
 use mathlib.Core.List.{List, _∷_, _++_}
@@ -6,11 +6,11 @@ use lib.ListN.{take}
 use lib.Ieee.{Float}
 use Rattle.floats.specs.Refusal.{Outcome, accepted, refusal, or}
 use Rattle.floats.specs.Numbers.{zeros, allFinite}
-use Rattle.filter.specs.declared.measured.Measured.{Measured}
+use Rattle.filter.specs.declared.measurement.Measurement.{Measurement}
 use Rattle.filter.specs.Asked.{within, long, every, inOrder}
-use Rattle.filter.specs.Calls.{sized, observedNumbers, lentMeasured, Measurement, measurement}
+use Rattle.filter.specs.Calls.{sized, observedNumbers, lentMeasured, measurement}
 
--- o once all is passed: that the call fits, the sizes, the lengths, that the numbers of the slices are finite and the close's half-turns too, its plain kinds, its kinds' 6
+-- o once all is passed, the tests in their order: that the call fits, the sizes, the lengths, that the numbers of the slices are finite and the close's half-turns too (turns), that the kinds that have to be plain are, that the close's kinds pass 6
 abbrev pub lentInOrder : {A : Type 0} → Bool → ℕ → ℕ → List Float → List Float → List Float → Bool → Bool → Bool → Outcome A → Outcome A
 lentInOrder fits n m z r observed turns plain passing o =
     inOrder fits
@@ -24,9 +24,8 @@ abbrev pub takenIn : Bool → ℕ → ℕ → List Float → List Float → List
 takenIn fits n m z r observed turns plain passing = lentInOrder fits n m z r observed turns plain passing (accepted (measurement n m z r observed))
 
 -- refused by a number: +0 throughout
-abbrev pub unmeasured : ℕ → Measured
+abbrev pub unmeasured : ℕ → Measurement
 unmeasured q = record { refusal = q; z = zeros 8; r = zeros 64; observed = zeros 136 }
 
--- the number beside the arrays
-abbrev pub measuredAs : Outcome Measurement → Measured
-measuredAs o = let v = or (record { z = zeros 8; r = zeros 64; observed = zeros 136 }) o in record { refusal = refusal o; z = v .z; r = v .r; observed = v .observed }
+abbrev pub measured : Outcome Measurement → Measurement
+measured o = or (unmeasured (refusal o)) o

@@ -1,9 +1,9 @@
--- `measured::refuse` meets its contract. Assumes nothing.
+-- `measurement::refuse` meets its contract. Assumes nothing.
 use mathlib.Core.Path.{refl}
 use lib.Ieee.{ofBits}
 use Rattle.floats.specs.Numbers.{zeros}
-use Rattle.filter.proofs.measured.refuse.Statement.{statement}
-use Rattle.filter.proofs.measured.refuse.Tie as tie
+use Rattle.filter.proofs.measurement.refuse.Statement.{statement}
+use Rattle.filter.proofs.measurement.refuse.Tie as tie
 
 returns : tie.Need-returns
 unfolding ofBits zeros

@@ -1,0 +1,61 @@
+-- What an accepted close leaves: x and P as its steps have made them, the points and the opened weights installed, the stale mark, nothing open and scratch at +0. Assumes nothing.
+use Prim.Native.Nat.{ℕ}
+use mathlib.Core.Path.{_≡_, ap}
+use mathlib.Core.Bool.{Bool, true, false}
+use mathlib.Core.List.{List}
+use native.Mathlib.Omega.{arith}
+use lib.Ieee.{Float, Format}
+use Rattle.floats.specs.Refusal.{Refusal, Outcome, refused}
+use Rattle.floats.proofs.Refusals.{number-above}
+use Rattle.angles.specs.declared.Kind.{Kind}
+use Rattle.matrix.specs.Results.{Plan, run, mapped}
+use Rattle.sigma.specs.Predict.{Moment}
+use Rattle.correction.specs.Correct.{Head, applyPlan}
+use Rattle.filter.specs.declared.Filter.{Filter}
+use Rattle.filter.specs.Filters.{seen, close, changed}
+use Rattle.filter.specs.Calls.{Call, closing, close-prediction, close-correction, close-correction-flat, asks, Done, closed, plan}
+use Rattle.filter.specs.Steps.{stepped, step}
+use Rattle.filter.proofs.Closing.{propagatedOf, predicting, predicting-is, correcting-is, correcting-flat-is}
+use Rattle.demands.specs.Listed.{state, covariance, weightedHeadOf, flatHeadOf}
+use Rattle.demands.proofs.Passed.{by-cases, Ran, run-cases, ran-mapped, made, ran-made}
+use Rattle.demands.proofs.Table.{taken-fits}
+
+module _ (f : Format) (s : Filter) where
+  -- a call that is taken, whose plan is accepted with d alone
+  taken-as : (c : Call) (d : Done) → Ran (plan f (seen s) c) (λ (a : Done). a ≡ d) → step f s c .reply .refusal ≡ 0 → step f s c .filter ≡ changed s (d .change)
+  unfolding step
+  taken-as c d h =
+      by-cases P never f (asks (seen s) c) (run (plan f (seen s) c)) (λ p.
+      run-cases (λ (a : Done). a ≡ d) P never (plan f (seen s) c) h (λ a e z. ap (λ (x : Done). changed s (x .change)) e))
+    where
+      P : Outcome Done → Type 0
+      P o = stepped s o .reply .refusal ≡ 0 → stepped s o .filter ≡ changed s (d .change)
+
+      never : (r : Refusal) → stepped s (refused r) .reply .refusal ≡ 0 → stepped s (refused r) .filter ≡ changed s (d .change)
+      never r e = absurd (omega (arith, number-above r))
+
+  -- a close that installs weights w and points v once its steps p are done
+  closed-as : (c : Call) (w v : List Float) (stale : Bool) (p : Plan Moment) → plan f (seen s) c ≡ mapped (closed w v stale) p → step f s c .reply .refusal ≡ 0
+      → step f s c .filter ≡ close s (record { x = made p .x; p = made p .p; installed = record { weights = w; points = v }; stale = stale })
+  closed-as c w v stale p is = taken-as c (closed w v stale (made p)) (rw is (ran-mapped _ (closed w v stale) p (λ a e. ap (closed w v stale) (ran-made p a e))))
+
+  -- a prediction
+  pub prediction-closed : (v : List Float) → let c = closing (close-prediction v) in step f s c .reply .refusal ≡ 0
+      → step f s c .filter ≡ (let m = made (predicting f s v) in close s (record { x = m .x; p = m .p; installed = record { weights = s .«drawn_weights»; points = propagatedOf f s v }; stale = false }))
+  prediction-closed v e = let c = closing (close-prediction v) in closed-as c (s .«drawn_weights») (propagatedOf f s v) false (predicting f s v) (predicting-is f s v (taken-fits f s c e)) e
+
+  -- a correction, weighted and flat: from a head h on
+  abbrev pub corrected : Head → Filter
+  corrected h = close s (record { x = state f h; p = covariance f h; installed = record { weights = s .«drawn_weights»; points = s .«drawn_points» }; stale = true })
+
+  pub correction-closed : (m : ℕ) (z r : List Float) (kinds : List Kind) (observed : List Float) → let c = closing (close-correction m z r kinds observed) in step f s c .reply .refusal ≡ 0
+      → step f s c .filter ≡ corrected (weightedHeadOf f s m z r kinds observed)
+  correction-closed m z r kinds observed e =
+      let c = closing (close-correction m z r kinds observed) in
+      closed-as c (s .«drawn_weights») (s .«drawn_points») true (applyPlan f (weightedHeadOf f s m z r kinds observed)) (correcting-is f s m z r kinds observed (taken-fits f s c e)) e
+
+  pub flat-correction-closed : (m : ℕ) (z r observed : List Float) → let c = closing (close-correction-flat m z r observed) in step f s c .reply .refusal ≡ 0
+      → step f s c .filter ≡ corrected (flatHeadOf f s m z r observed)
+  flat-correction-closed m z r observed e =
+      let c = closing (close-correction-flat m z r observed) in
+      closed-as c (s .«drawn_weights») (s .«drawn_points») true (applyPlan f (flatHeadOf f s m z r observed)) (correcting-flat-is f s m z r observed (taken-fits f s c e)) e
