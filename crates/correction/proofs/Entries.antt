@@ -31,9 +31,13 @@ module _ (f : Format) where
   pub flat-spread-filled : (a : List Float) (da : ℕ) (b : List Float) (db t : ℕ) → da ≤ 8 → db ≤ 8 → Filled (flatSpreadAt f a da b db t) da db 64 (flatSpreadOf f a da b db t)
   flat-spread-filled a da b db t = matrix-filled (flatSpreadAt f a da b db t) da db
 
-  -- what the shared steps answer, by another name for their head
-  pub from-head : {q : Moments} (h : Head) {k : Head} → q ≡ moments (run (applyPlan f h)) → h ≡ k → q ≡ moments (run (applyPlan f k))
-  from-head h e is = e ∙ ap (λ (g : Head). moments (run (applyPlan f g))) is
+  -- the shared steps' answer, where a close has made z mean, S, x mean and cross covariance as its definition does
+  pub from-head : {q : Moments} (h : Head) {zm s xm c : List Float} → q ≡ moments (run (applyPlan f h)) → h .zm ≡ zm → h .s ≡ s → h .xm ≡ xm → h .c ≡ c
+      → q ≡ moments (run (applyPlan f (record { n = h .n; m = h .m; x = h .x; p = h .p; z = h .z; measured = h .measured; zm = zm; s = s; xm = xm; c = c })))
+  from-head h {zm} {s} e a b d k =
+      let head : List Float → List Float → List Float → List Float → Head =
+      λ t u v w. record { n = h .n; m = h .m; x = h .x; p = h .p; z = h .z; measured = h .measured; zm = t; s = u; xm = v; c = w } in
+      e ∙ ap₂ (λ (t u : List Float). moments (run (applyPlan f (head t u (h .xm) (h .c))))) a b ∙ ap₂ (λ (v w : List Float). moments (run (applyPlan f (head zm s v w)))) d k
 
 -- entry (i, j) of S and of the cross covariance, in either close: from the points p and q of d and e numbers and their means u and v
 module _ (f : Format) (p : List Float) (d : ℕ) (u : List Float) (q : List Float) (e : ℕ) (v : List Float) (t : ℕ) (g : t < 17) (h : d ≤ 8) (o : e ≤ 8) (i j : ℕ) (l : i < d) (r : j < e) where

@@ -108,7 +108,7 @@ filled-all {k} {m} {l} a =
 
 -- ---- kinds
 
--- eight plain ones, and plain past them
+-- plain ones, and plain past them
 pub plain-past : (k i : ℕ) → getD (replicate k plain) i plain ≡ plain
 plain-past zero i = refl
 plain-past (suc k) zero = refl

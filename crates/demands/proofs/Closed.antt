@@ -10,13 +10,13 @@ use Rattle.floats.proofs.Refusals.{number-above}
 use Rattle.angles.specs.declared.Kind.{Kind}
 use Rattle.matrix.specs.Results.{Plan, run, mapped}
 use Rattle.sigma.specs.Predict.{Moment}
-use Rattle.correction.specs.Correct.{Head, applyPlan}
+use Rattle.correction.specs.Correct.{applyPlan}
 use Rattle.filter.specs.declared.Filter.{Filter}
-use Rattle.filter.specs.Filters.{seen, close, changed}
-use Rattle.filter.specs.Calls.{Call, closing, close-prediction, close-correction, close-correction-flat, asks, Done, closed, plan}
+use Rattle.filter.specs.Filters.{seen, closedWith, changed}
+use Rattle.filter.specs.Calls.{Call, closing, close-prediction, close-correction, close-correction-flat, asks, Done, closed, plan, weightedFrom, flatFrom}
 use Rattle.filter.specs.Steps.{stepped, step}
 use Rattle.filter.proofs.Closing.{propagatedOf, predicting, predicting-is, correcting-is, correcting-flat-is}
-use Rattle.demands.specs.Listed.{state, covariance, weightedHeadOf, flatHeadOf}
+use Rattle.demands.specs.Listed.{state, covariance}
 use Rattle.demands.proofs.Passed.{by-cases, Ran, run-cases, ran-mapped, made, ran-made}
 use Rattle.demands.proofs.Table.{taken-fits}
 
@@ -34,28 +34,23 @@ module _ (f : Format) (s : Filter) where
       never : (r : Refusal) → stepped s (refused r) .reply .refusal ≡ 0 → stepped s (refused r) .filter ≡ changed s (d .change)
       never r e = absurd (omega (arith, number-above r))
 
-  -- a close that installs weights w and points v once its steps p are done
-  closed-as : (c : Call) (w v : List Float) (stale : Bool) (p : Plan Moment) → plan f (seen s) c ≡ mapped (closed w v stale) p → step f s c .reply .refusal ≡ 0
-      → step f s c .filter ≡ close s (record { x = made p .x; p = made p .p; installed = record { weights = w; points = v }; stale = stale })
-  closed-as c w v stale p is = taken-as c (closed w v stale (made p)) (rw is (ran-mapped _ (closed w v stale) p (λ a e. ap (closed w v stale) (ran-made p a e))))
+  -- a close that installs the points v once its steps p are done
+  closed-as : (c : Call) (v : List Float) (stale : Bool) (p : Plan Moment) → plan f (seen s) c ≡ mapped (closed (s .«drawn_weights») v stale) p → step f s c .reply .refusal ≡ 0 → step f s c .filter ≡ closedWith s v stale (made p .x) (made p .p)
+  closed-as c v stale p is = let w = s .«drawn_weights» in taken-as c (closed w v stale (made p)) (rw is (ran-mapped _ (closed w v stale) p (λ a e. ap (closed w v stale) (ran-made p a e))))
 
-  -- a prediction
   pub prediction-closed : (v : List Float) → let c = closing (close-prediction v) in step f s c .reply .refusal ≡ 0
-      → step f s c .filter ≡ (let m = made (predicting f s v) in close s (record { x = m .x; p = m .p; installed = record { weights = s .«drawn_weights»; points = propagatedOf f s v }; stale = false }))
-  prediction-closed v e = let c = closing (close-prediction v) in closed-as c (s .«drawn_weights») (propagatedOf f s v) false (predicting f s v) (predicting-is f s v (taken-fits f s c e)) e
+      → step f s c .filter ≡ (let m = made (predicting f s v) in closedWith s (propagatedOf f s v) false (m .x) (m .p))
+  prediction-closed v e = let c = closing (close-prediction v) in closed-as c (propagatedOf f s v) false (predicting f s v) (predicting-is f s v (taken-fits f s c e)) e
 
-  -- a correction, weighted and flat: from a head h on
-  abbrev pub corrected : Head → Filter
-  corrected h = close s (record { x = state f h; p = covariance f h; installed = record { weights = s .«drawn_weights»; points = s .«drawn_points» }; stale = true })
-
+  -- a correction, weighted and flat
   pub correction-closed : (m : ℕ) (z r : List Float) (kinds : List Kind) (observed : List Float) → let c = closing (close-correction m z r kinds observed) in step f s c .reply .refusal ≡ 0
-      → step f s c .filter ≡ corrected (weightedHeadOf f s m z r kinds observed)
+      → step f s c .filter ≡ (let h = weightedFrom f s m z r kinds observed in closedWith s (s .«drawn_points») true (state f h) (covariance f h))
   correction-closed m z r kinds observed e =
       let c = closing (close-correction m z r kinds observed) in
-      closed-as c (s .«drawn_weights») (s .«drawn_points») true (applyPlan f (weightedHeadOf f s m z r kinds observed)) (correcting-is f s m z r kinds observed (taken-fits f s c e)) e
+      closed-as c (s .«drawn_points») true (applyPlan f (weightedFrom f s m z r kinds observed)) (correcting-is f s m z r kinds observed (taken-fits f s c e)) e
 
   pub flat-correction-closed : (m : ℕ) (z r observed : List Float) → let c = closing (close-correction-flat m z r observed) in step f s c .reply .refusal ≡ 0
-      → step f s c .filter ≡ corrected (flatHeadOf f s m z r observed)
+      → step f s c .filter ≡ (let h = flatFrom f s m z r observed in closedWith s (s .«drawn_points») true (state f h) (covariance f h))
   flat-correction-closed m z r observed e =
       let c = closing (close-correction-flat m z r observed) in
-      closed-as c (s .«drawn_weights») (s .«drawn_points») true (applyPlan f (flatHeadOf f s m z r observed)) (correcting-flat-is f s m z r observed (taken-fits f s c e)) e
+      closed-as c (s .«drawn_points») true (applyPlan f (flatFrom f s m z r observed)) (correcting-flat-is f s m z r observed (taken-fits f s c e)) e

@@ -19,12 +19,12 @@ use Rattle.sigma.specs.Weights.{scaleOf, w0mOf}
 use Rattle.sigma.specs.Draw.{pointNumbers}
 use Rattle.filter.specs.declared.Filter.{Filter}
 use Rattle.filter.specs.Filters.{seen}
-use Rattle.filter.specs.Calls.{Call, setting, closing, open-prediction, open-correction, close-prediction, close-correction, close-correction-flat, fits, asks, plan}
+use Rattle.filter.specs.Calls.{Call, setting, closing, open-prediction, open-correction, close-prediction, close-correction, close-correction-flat, fits, asks, plan, weightedFrom, flatFrom}
 use Rattle.filter.specs.Steps.{step, paramsRead, staleRead}
 use Rattle.filter.specs.New.{empty, newAsks, newAnswer}
 use Rattle.filter.specs.Point.{pointAsks, pointRefusal, pointOf}
 use Rattle.demands.specs.Rows.{Some, NotFinite, NotAbove, Below, OutOfRange, IsTurn, IsFlat, Measurable, UnfitTurn, FirstFails, Cause, Applies, Due, ByStep, Neither}
-use Rattle.demands.specs.Listed.{listedAtOpen, listedAtPrediction, listedAtCorrection, weightedHeadOf, flatHeadOf}
+use Rattle.demands.specs.Listed.{listedAtOpen, listedAtPrediction, listedAtCorrection}
 use Rattle.demands.specs.Runs.{told}
 use Rattle.demands.specs.Sound.{Sound, Tidy, Reached, Yielded, handedOut, Each}
 use Rattle.demands.proofs.Exactly.{exactly, taken-exactly, new-exactly, new-taken, point-exactly, point-taken, wrap-exactly, wrap-taken, wrap-refused, root-exactly, kind-exactly, kind-taken, ends-so, refused-unwritten, refused-values, new-refused, point-refused}
@@ -102,6 +102,10 @@ module _ (f : Format) where
   pub kind-when : (s : Filter) (m : ℕ) (z r observed : List Float) → (step f s (closing (close-correction-flat m z r observed)) .reply .refusal ≡ number KIND) ↔ (Measurable s m z r observed × Some IsTurn (take (s .n) (s .kinds)))
   kind-when = turned-away-exactly f
 
+  -- The flat close never gives 4 or 6: stale doesn't stop it, and nothing that it is lent has to pass 6.
+  pub flat-correction-never : (s : Filter) (m : ℕ) (z r observed : List Float) → let k = step f s (closing (close-correction-flat m z r observed)) .reply .refusal in (k ≢ number STALE) × (k ≢ number PARAM)
+  flat-correction-never s m z r observed = let c = closing (close-correction-flat m z r observed) in (never-stale f s c refl, never-param f s c refl)
+
   -- ---- the steps' own numbers: the first result that fails, of those that document 01 lists, in its order
 
   -- Open: each factor entry as it is made, then all points; not stale, an open correction has none.
@@ -118,18 +122,14 @@ module _ (f : Format) where
 
   -- Close correction: z mean, S, x mean, cross covariance, then S's factor entries as made, inverse, gain, y, x, P.
   pub listed-at-correction : (s : Filter) (m : ℕ) (z r : List Float) (kinds : List Kind) (observed : List Float)
-      → planned (plan f s (closing (close-correction m z r kinds observed))) ≡ listedAtCorrection f (weightedHeadOf f s m z r kinds observed)
+      → planned (plan f s (closing (close-correction m z r kinds observed))) ≡ listedAtCorrection f (weightedFrom f s m z r kinds observed)
   listed-at-correction = close-correction-lists f
 
-  -- The flat close: the same results, of its own means, S and cross covariance.
-  pub listed-at-flat-correction : (s : Filter) (m : ℕ) (z r observed : List Float) → planned (plan f s (closing (close-correction-flat m z r observed))) ≡ listedAtCorrection f (flatHeadOf f s m z r observed)
+  -- The flat close: the same results, of its own z mean, S, x mean and cross covariance. (What these are, in either close: Demand2.)
+  pub listed-at-flat-correction : (s : Filter) (m : ℕ) (z r observed : List Float) → planned (plan f s (closing (close-correction-flat m z r observed))) ≡ listedAtCorrection f (flatFrom f s m z r observed)
   listed-at-flat-correction = close-correction-flat-lists f
 
-  -- It never gives 4 or 6: stale doesn't stop it, and nothing that it is lent has to pass 6.
-  pub flat-correction-never : (s : Filter) (m : ℕ) (z r observed : List Float) → let k = step f s (closing (close-correction-flat m z r observed)) .reply .refusal in (k ≢ number STALE) × (k ≢ number PARAM)
-  flat-correction-never s m z r observed = let c = closing (close-correction-flat m z r observed) in (never-stale f s c refl, never-param f s c refl)
-
-  -- They give 5, 7, 8 and 9 alone;
+  -- Steps give 5, 7, 8 and 9 alone;
   pub steps-give-their-own : (s : Filter) (c : Call) (r : Refusal) → FirstFails r (planned (plan f (seen s) c)) → ByStep r
   steps-give-their-own = steps-give f
 
@@ -169,7 +169,7 @@ module _ (f : Format) where
   pub every-number-is-finite : (s : Filter) → Yielded f s → (cs : List Call) → Each (λ t. allFinite (handedOut t) ≡ true) (told f s cs)
   every-number-is-finite = all-handed-finite f
 
-  -- such a filter is sound: finite where in use, +0 in unused places, its parameters and kinds past 5 and 6;
+  -- such a filter is sound: finite where in use, +0 in unused places, its parameters and kinds past 5 and 6, kinds past its states plain;
   pub yielded-is-sound : {s : Filter} → Yielded f s → Sound f s
   yielded-is-sound = sound f
 

@@ -42,15 +42,15 @@ use Rattle.sigma.specs.Mean.{meanOf}
 use Rattle.sigma.specs.Spread.{deviationAt, deviationsOf, spreadOf}
 use Rattle.sigma.specs.Predict.{Moment, predictPlan}
 use Rattle.sigma.proofs.Entries.{weight-first, weight-other, point-first, point-plus, point-minus, drawn-filled, mean-placed, deviations-filled, spread-filled}
-use Rattle.correction.specs.Leaves.{innovationAt, innovationOf, shiftedAt, shiftedOf, noKinds}
-use Rattle.correction.specs.Correct.{Head, applyPlan, Given, dzOf, weightedHead}
+use Rattle.correction.specs.Leaves.{innovationAt, innovationOf, shiftedAt, shiftedOf, widened, noKinds}
+use Rattle.correction.specs.Correct.{Head, applyPlan, Given, given, dzOf, weightedHead}
 use Rattle.correction.specs.Flat.{flatSpreadOf, flatHead}
 use Rattle.correction.proofs.Entries.{flat-mean-placed, spread-entry, flat-entry, through-plain}
 use Rattle.filter.specs.declared.Filter.{Filter}
-use Rattle.filter.specs.Filters.{close}
-use Rattle.filter.specs.Calls.{closing, close-prediction, close-correction, close-correction-flat}
+use Rattle.filter.specs.Filters.{closedWith}
+use Rattle.filter.specs.Calls.{closing, close-prediction, close-correction, close-correction-flat, weightedFrom, flatFrom}
 use Rattle.filter.specs.Steps.{step}
-use Rattle.demands.specs.Listed.{innovation, state, covariance, weightedHeadOf, flatHeadOf}
+use Rattle.demands.specs.Listed.{innovation, state, covariance}
 use Rattle.demands.proofs.Passed.{ran-made}
 use Rattle.demands.proofs.Closed.{prediction-closed, correction-closed, flat-correction-closed}
 
@@ -221,9 +221,9 @@ module _ (f : Format) where
         ≡ totalOf (add f) plusZero (λ (k : ℕ). mul f (mul f (at (g .w) k) (deviationAt f (g .points) (g .n) (weighted .xm) (g .kinds) k i)) (deviationAt f (g .observed) (g .m) (weighted .zm) (g .measured) k j)) (g .n + g .n + 1)
     weighted-c i j k l = spread-entry f (g .points) (g .n) (weighted .xm) (g .observed) (g .m) (weighted .zm) (g .n + g .n) (omega arith) h o i j k l (g .kinds) (g .measured) (g .w)
 
-    -- with the stored x and P, and z with its kinds
-    pub weighted-keeps : (weighted .x ≡ g .x) × (weighted .p ≡ g .p) × (weighted .z ≡ g .z) × (weighted .measured ≡ g .measured)
-    weighted-keeps = (refl, refl, refl, refl)
+    -- with the sizes, the stored x and P, and z with its kinds
+    pub weighted-keeps : (weighted .n ≡ g .n) × (weighted .m ≡ g .m) × (weighted .x ≡ g .x) × (weighted .p ≡ g .p) × (weighted .z ≡ g .z) × (weighted .measured ≡ g .measured)
+    weighted-keeps = (refl, refl, refl, refl, refl, refl)
 
   -- The flat close (document 02, A1). `correct_nonlinear` is `flatPlan`, the shared steps from `flatHead` on: per entry a sum from +0 over all 2n+1 points, divided by 2n+1; no kinds, no weights
 
@@ -253,34 +253,45 @@ module _ (f : Format) where
     pub flat-y : (j : ℕ) → j < m → at (innovation f flat) j ≡ sub f (at z j) (at (flat .zm) j)
     flat-y j l = innovation-at m z (flat .zm) noKinds o j l ∙ through-plain f j _ (omega arith)
 
-    -- with the stored x and P
-    pub flat-keeps : (flat .x ≡ x) × (flat .p ≡ p)
-    flat-keeps = (refl, refl)
+    -- with the sizes, the stored x and P, and z
+    pub flat-keeps : (flat .n ≡ n) × (flat .m ≡ m) × (flat .x ≡ x) × (flat .p ≡ p) × (flat .z ≡ z)
+    flat-keeps = (refl, refl, refl, refl, refl)
 
   -- ---- The calls: every method of `Filter` (crate filter) is `step`, by the table in filter/specs/Calls.antt: which of these plans a call runs, on what, and what it installs
 
-  -- An accepted close sets x and P to what its steps have made, installs the points and the opened weights, sets the mark, and leaves nothing open and scratch at +0 (`close` of filter/specs/Filters.antt):
-  -- a prediction the propagated points, and is not stale;
+  -- A close of a correction gives its steps the sizes, the stored x and P, what was opened, and of z, R and the observed points the numbers in use, +0 past them; the weighted one also w0m by the parameters, the opened weights and the kinds.
+  module _ (s : Filter) (m : ℕ) (z r observed : List Float) where
+    abbrev of-z : List Float
+    of-z = front m z (zeros 8)
+
+    abbrev of-r : List Float
+    of-r = front (m * m) r (zeros 64)
+
+    abbrev of-observed : List Float
+    of-observed = front ((s .n + s .n + 1) * m) observed (zeros 136)
+
+    pub correction-from : (kinds : List Kind)
+        → weightedFrom f s m z r kinds observed ≡ weightedHead f (given (s .n) m (s .x) (s .p) (s .«drawn_points») of-observed (w0mOf f (s .n) (s .params)) (s .«drawn_weights») of-z of-r (s .kinds) (widened kinds))
+    correction-from kinds = refl
+
+    pub flat-correction-from : flatFrom f s m z r observed ≡ flatHead f (s .n) m (s .x) (s .p) (s .«drawn_points») of-observed of-z of-r
+    flat-correction-from = refl
+
+  -- An accepted close sets x and P to what its steps have made, installs points and the opened weights, sets the mark, and leaves nothing open and scratch at +0 (`closedWith` of filter/specs/Filters.antt):
+  -- a prediction the propagated points, and it is not stale;
   pub prediction-installs : (s : Filter) (v : List Float) → step f s (closing (close-prediction v)) .reply .refusal ≡ 0
       → step f s (closing (close-prediction v)) .filter
       ≡ (let points = front (pointNumbers (s .n)) v (zeros 136) in
       let mean = meanOf f points (s .n) (s .n + s .n) (w0mOf f (s .n) (s .params)) (s .«drawn_weights») (s .kinds) in
       let dx = deviationsOf f points (s .n) (s .n + s .n) mean (s .kinds) in
-      close s (record {
-        x = mean;
-        p = plusOf f (s .n * s .n) (s .q) (spreadOf f dx (s .n) dx (s .n) (s .«drawn_weights») (s .n + s .n));
-        installed = record { weights = s .«drawn_weights»; points = points };
-        stale = false;
-      }))
+      closedWith s points false mean (plusOf f (s .n * s .n) (s .q) (spreadOf f dx (s .n) dx (s .n) (s .«drawn_weights») (s .n + s .n))))
   prediction-installs = prediction-closed f
 
-  -- a correction, of either sort, the opened points, and is stale.
+  -- a correction of either sort the opened points, and it is stale.
   pub correction-installs : (s : Filter) (m : ℕ) (z r : List Float) (kinds : List Kind) (observed : List Float) → step f s (closing (close-correction m z r kinds observed)) .reply .refusal ≡ 0
-      → step f s (closing (close-correction m z r kinds observed)) .filter
-      ≡ (let h = weightedHeadOf f s m z r kinds observed in close s (record { x = state f h; p = covariance f h; installed = record { weights = s .«drawn_weights»; points = s .«drawn_points» }; stale = true }))
+      → step f s (closing (close-correction m z r kinds observed)) .filter ≡ (let h = weightedFrom f s m z r kinds observed in closedWith s (s .«drawn_points») true (state f h) (covariance f h))
   correction-installs = correction-closed f
 
   pub flat-correction-installs : (s : Filter) (m : ℕ) (z r observed : List Float) → step f s (closing (close-correction-flat m z r observed)) .reply .refusal ≡ 0
-      → step f s (closing (close-correction-flat m z r observed)) .filter
-      ≡ (let h = flatHeadOf f s m z r observed in close s (record { x = state f h; p = covariance f h; installed = record { weights = s .«drawn_weights»; points = s .«drawn_points» }; stale = true }))
+      → step f s (closing (close-correction-flat m z r observed)) .filter ≡ (let h = flatFrom f s m z r observed in closedWith s (s .«drawn_points») true (state f h) (covariance f h))
   flat-correction-installs = flat-correction-closed f

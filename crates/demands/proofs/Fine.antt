@@ -28,8 +28,7 @@ use Rattle.filter.specs.declared.Stage.the-variants.{Shut, Predicting, Correcti
 use Rattle.filter.specs.declared.Weighted.{Weighted}
 use Rattle.filter.specs.Asked.{fit, by-params, by-kind, inRange, every}
 use Rattle.filter.specs.Filters.{isShut, isPredicting, isCorrecting, seen, Setting, x-set, p-set, q-set, params-set, kinds-set, opened-prediction, opened-correction, Closing, Change, sets, closes, abandons, reads}
-use Rattle.filter.specs.Calls.{set-x, set-p, set-q, set-params, set-kind, open-prediction, open-correction, close-prediction, close-correction, close-correction-flat, read-x, read-p, read-q, read-points, read-params, read-stale, Call, setting, closing, abandon, reading, inKinds, asKinds, asks, Done, opened, closed, draws, plan}
-use Rattle.demands.specs.Listed.{weightedHeadOf, flatHeadOf}
+use Rattle.filter.specs.Calls.{set-x, set-p, set-q, set-params, set-kind, open-prediction, open-correction, close-prediction, close-correction, close-correction-flat, read-x, read-p, read-q, read-points, read-params, read-stale, Call, setting, closing, abandon, reading, inKinds, asKinds, asks, Done, opened, closed, draws, plan, weightedFrom, flatFrom}
 use Rattle.demands.specs.Sound.{Filled, Sound}
 use Rattle.demands.proofs.Passed.{both, Passed, Ran, ran-finish, ran-after, ran-listed, ran-either, ran-mapped}
 use Rattle.demands.proofs.Listed.{drawing, predicting}
@@ -190,8 +189,8 @@ module _ (f : Format) (s : Filter) (o : Sound f s) where
       let a = predict-filled f (s .n) points (w0mOf f (s .n) (s .params)) (seen s .«drawn_weights») (s .kinds) (s .q) m e in
       let b = filled-front (pointNumbers (s .n)) 136 v (leb-true _ _ (h .lent .0)) (points-room (s .n) (in-range 1 8 (s .n) (h .sizes .0) .1)) (h .inputs) in
       record { change = (a .0, a .1, open-weighted (predicting-open (s .stage) (h .fits)) points b); given = refl })
-  fine (closing (close-correction m z r kinds observed)) h = corrected-fine (correcting-open (s .stage) (h .fits)) (weightedHeadOf f (seen s) m z r kinds observed) refl
-  fine (closing (close-correction-flat m z r observed)) h = corrected-fine (correcting-open (s .stage) (h .fits)) (flatHeadOf f (seen s) m z r observed) refl
+  fine (closing (close-correction m z r kinds observed)) h = corrected-fine (correcting-open (s .stage) (h .fits)) (weightedFrom f (seen s) m z r kinds observed) refl
+  fine (closing (close-correction-flat m z r observed)) h = corrected-fine (correcting-open (s .stage) (h .fits)) (flatFrom f (seen s) m z r observed) refl
   fine abandon h = ran-finish _ _ (record { change = tt; given = refl })
   fine (reading (read-x b)) h = ran-finish _ _ (record { change = tt; given = o .x .bounded })
   fine (reading (read-p b)) h = ran-finish _ _ (record { change = tt; given = o .p .bounded })

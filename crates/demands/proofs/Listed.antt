@@ -1,4 +1,4 @@
--- The results that a call's steps check are those that document 01 lists (specs/Listed.antt), in its order. No other call has any. Assumes nothing.
+-- The results that a call's steps check are those that documents 01 and 02 list (specs/Listed.antt), in their order. No other call has any. Assumes nothing.
 use Prim.Native.Nat.{ℕ}
 use mathlib.Core.Path.{_≡_, refl}
 use mathlib.Core.Bool.{Bool, true, false, cond}
@@ -15,8 +15,8 @@ use Rattle.sigma.specs.Predict.{Moment, predictPlan}
 use Rattle.correction.specs.Correct.{applyPlan}
 use Rattle.filter.specs.declared.Filter.{Filter}
 use Rattle.filter.specs.Filters.{opened-prediction, opened-correction}
-use Rattle.filter.specs.Calls.{setting, closing, open-prediction, open-correction, close-prediction, close-correction, close-correction-flat, opened, closed, draws, plan}
-use Rattle.demands.specs.Listed.{listedAtOpen, listedAtPrediction, listedAtCorrection, weightedHeadOf, flatHeadOf}
+use Rattle.filter.specs.Calls.{setting, closing, open-prediction, open-correction, close-prediction, close-correction, close-correction-flat, opened, closed, draws, plan, weightedFrom, flatFrom}
+use Rattle.demands.specs.Listed.{listedAtOpen, listedAtPrediction, listedAtCorrection}
 
 -- the steps of an opening that draws, and of a close prediction; those of the closes of a correction are `applyPlan`
 module _ (f : Format) (s : Filter) where
@@ -43,8 +43,8 @@ module _ (f : Format) (s : Filter) where
   close-prediction-lists v = planned-mapped (closed (s .«drawn_weights») (front (pointNumbers (s .n)) v (zeros 136)) false) (predicting f s v)
 
   pub close-correction-lists : (m : ℕ) (z r : List Float) (kinds : List Kind) (observed : List Float)
-      → planned (plan f s (closing (close-correction m z r kinds observed))) ≡ listedAtCorrection f (weightedHeadOf f s m z r kinds observed)
-  close-correction-lists m z r kinds observed = planned-mapped (closed (s .«drawn_weights») (s .«drawn_points») true) (applyPlan f (weightedHeadOf f s m z r kinds observed))
+      → planned (plan f s (closing (close-correction m z r kinds observed))) ≡ listedAtCorrection f (weightedFrom f s m z r kinds observed)
+  close-correction-lists m z r kinds observed = planned-mapped (closed (s .«drawn_weights») (s .«drawn_points») true) (applyPlan f (weightedFrom f s m z r kinds observed))
 
-  pub close-correction-flat-lists : (m : ℕ) (z r observed : List Float) → planned (plan f s (closing (close-correction-flat m z r observed))) ≡ listedAtCorrection f (flatHeadOf f s m z r observed)
-  close-correction-flat-lists m z r observed = planned-mapped (closed (s .«drawn_weights») (s .«drawn_points») true) (applyPlan f (flatHeadOf f s m z r observed))
+  pub close-correction-flat-lists : (m : ℕ) (z r observed : List Float) → planned (plan f s (closing (close-correction-flat m z r observed))) ≡ listedAtCorrection f (flatFrom f s m z r observed)
+  close-correction-flat-lists m z r observed = planned-mapped (closed (s .«drawn_weights») (s .«drawn_points») true) (applyPlan f (flatFrom f s m z r observed))

@@ -15,11 +15,10 @@ use Rattle.correction.specs.Correct.{applyPlan}
 use Rattle.filter.specs.declared.Filter.{Filter}
 use Rattle.filter.specs.Asked.{Size}
 use Rattle.filter.specs.Filters.{seen, Setting, Closing, Change, sets, closes, abandons, reads}
-use Rattle.filter.specs.Calls.{set-x, set-p, set-q, set-params, set-kind, open-prediction, open-correction, close-prediction, close-correction, close-correction-flat, read-x, read-p, read-q, read-points, read-params, read-stale, Call, setting, closing, abandon, reading, fits, asks, Done, closed, plan}
+use Rattle.filter.specs.Calls.{set-x, set-p, set-q, set-params, set-kind, open-prediction, open-correction, close-prediction, close-correction, close-correction-flat, read-x, read-p, read-q, read-points, read-params, read-stale, Call, setting, closing, abandon, reading, fits, asks, Done, closed, plan, weightedFrom, flatFrom}
 use Rattle.filter.specs.Steps.{step}
 use Rattle.demands.specs.Rows.{Some, here, OutOfRange, IsTurn, IsFlat, FirstFails, Cause, stage, size, short, stale, kind, param, met, gives, Applies, place, ByStep}
 use Rattle.demands.specs.Rows as Row
-use Rattle.demands.specs.Listed.{weightedHeadOf, flatHeadOf}
 use Rattle.demands.specs.Sound.{end, and}
 use Rattle.demands.proofs.Rows.{two-ways, none}
 use Rattle.demands.proofs.Exactly.{exactly}
@@ -61,8 +60,8 @@ module _ (f : Format) (s : Filter) where
   regular (setting (open-prediction b)) = lined refl refl none (rw (open-prediction-lists f s b) (draw-own f (s .n) _ _ _)) (ran-mapped _ _ (drawing f s) (λ a e. (_, refl)))
   regular (setting (open-correction b)) = lined refl refl none (rw (open-correction-lists f s b) (own-either (s .stale) (draw-own f (s .n) _ _ _))) (ran-either _ (s .stale) _ _ (λ t. ran-mapped _ _ (drawing f s) (λ a e. (_, refl))) (λ t. ran-finish _ _ (_, refl)))
   regular (closing (close-prediction v)) = lined refl refl none (rw (close-prediction-lists f s v) (and tt (and tt end))) (ran-mapped _ (closed (s .«drawn_weights») (front (pointNumbers (s .n)) v (zeros 136)) false) (predicting f s v) (λ a e. (_, refl)))
-  regular (closing (close-correction m z r kinds observed)) = lined refl refl none (rw (close-correction-lists f s m z r kinds observed) (correct-own f (weightedHeadOf f s m z r kinds observed))) (ran-mapped _ (closed (s .«drawn_weights») (s .«drawn_points») true) (applyPlan f (weightedHeadOf f s m z r kinds observed)) (λ a e. (_, refl)))
-  regular (closing (close-correction-flat m z r observed)) = lined refl refl (λ w. tt) (rw (close-correction-flat-lists f s m z r observed) (correct-own f (flatHeadOf f s m z r observed))) (ran-mapped _ (closed (s .«drawn_weights») (s .«drawn_points») true) (applyPlan f (flatHeadOf f s m z r observed)) (λ a e. (_, refl)))
+  regular (closing (close-correction m z r kinds observed)) = lined refl refl none (rw (close-correction-lists f s m z r kinds observed) (correct-own f (weightedFrom f s m z r kinds observed))) (ran-mapped _ (closed (s .«drawn_weights») (s .«drawn_points») true) (applyPlan f (weightedFrom f s m z r kinds observed)) (λ a e. (_, refl)))
+  regular (closing (close-correction-flat m z r observed)) = lined refl refl (λ w. tt) (rw (close-correction-flat-lists f s m z r observed) (correct-own f (flatFrom f s m z r observed))) (ran-mapped _ (closed (s .«drawn_weights») (s .«drawn_points») true) (applyPlan f (flatFrom f s m z r observed)) (λ a e. (_, refl)))
   regular abandon = lined refl refl none end (ran-finish _ _ refl)
   regular (reading (read-x b)) = lined refl refl none end (ran-finish _ _ refl)
   regular (reading (read-p b)) = lined refl refl none end (ran-finish _ _ refl)

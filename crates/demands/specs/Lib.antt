@@ -1,4 +1,4 @@
--- `Written` and `Cases`: the table of cases. `Rows` and `Listed`: document 01's table and listed results in its words. `Runs` and `Sound`: what the demands speak of. `Useless`: builds that they stop.
+-- `Written` and `Cases`: the table of cases. `Rows` and `Listed`: the table of refusals and the listed results in the documents' words. `Runs` and `Sound`: what the demands speak of. `Useless`: builds that they stop.
 pub mod Written
 pub mod Cases
 pub mod Rows

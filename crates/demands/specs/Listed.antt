@@ -11,15 +11,11 @@ use Rattle.matrix.specs.Sums.{plusOf, minusOf}
 use Rattle.matrix.specs.Factor.{factorOf}
 use Rattle.matrix.specs.Inverse.{inverseOf}
 use Rattle.matrix.specs.Product.{transbOf}
-use Rattle.sigma.specs.Weights.{w0mOf}
 use Rattle.sigma.specs.Draw.{pointNumbers, pointsOf}
 use Rattle.sigma.specs.Mean.{meanOf}
 use Rattle.sigma.specs.Spread.{deviationsOf, spreadOf}
-use Rattle.correction.specs.Leaves.{innovationOf, shiftedOf, widened}
-use Rattle.correction.specs.Correct.{Head, given, weightedHead}
-use Rattle.correction.specs.Flat.{flatHead}
-use Rattle.filter.specs.declared.Filter.{Filter}
-use Rattle.filter.specs.Calls.{measurement}
+use Rattle.correction.specs.Leaves.{innovationOf, shiftedOf}
+use Rattle.correction.specs.Correct.{Head}
 
 module _ (f : Format) where
   -- Open: each factor entry as it is made (and N, whose root is taken), then all points
@@ -65,15 +61,3 @@ module _ (f : Format) where
         ∷ numbers (take (h .n) state)
         ∷ numbers (take (h .n * h .n) covariance)
         ∷ []))
-
--- from where the shared steps of the two closes start, by the filter as seen and the call
-module _ (f : Format) (s : Filter) where
-  abbrev pub weightedHeadOf : ℕ → List Float → List Float → List Kind → List Float → Head
-  weightedHeadOf m z r kinds observed =
-      let v = measurement (s .n) m z r observed in
-      weightedHead f (given (s .n) m (s .x) (s .p) (s .«drawn_points») (v .observed) (w0mOf f (s .n) (s .params)) (s .«drawn_weights») (v .z) (v .r) (s .kinds) (widened kinds))
-
-  abbrev pub flatHeadOf : ℕ → List Float → List Float → List Float → Head
-  flatHeadOf m z r observed =
-      let v = measurement (s .n) m z r observed in
-      flatHead f (s .n) m (s .x) (s .p) (s .«drawn_points») (v .observed) (v .z) (v .r)

@@ -132,7 +132,7 @@ IsFlat (closing (close-correction-flat m z r observed)) = Unit {0}
 IsFlat abandon = ⊥
 IsFlat (reading c) = ⊥
 
--- what a flat close is lent before its kinds count: a correction is open, there are 1 to 8 states and 1 to 4 measurements, the slices are long enough and their numbers finite
+-- nothing stops a flat close before its kinds count: a correction is open, there are 1 to 8 states and 1 to 4 measurements, the slices are long enough and their numbers finite
 pub record Measurable (s : Filter) (m : ℕ) (z r observed : List Float) : Type 0 where
   pub correcting : isCorrecting (s .stage) ≡ true
   pub states : (1 ≤ s .n) × (s .n ≤ 8)

@@ -14,16 +14,13 @@ use Rattle.sigma.specs.Weights.{w0mOf}
 use Rattle.sigma.specs.Draw.{pointNumbers}
 use Rattle.sigma.specs.Predict.{Moment, predictPlan, nothingMade, moments}
 use Rattle.sigma.specs.declared.Moments.{Moments}
-use Rattle.correction.specs.Leaves.{widened}
-use Rattle.correction.specs.Correct.{Given, given, correctPlan}
-use Rattle.correction.specs.Flat.{flatPlan}
+use Rattle.correction.specs.Correct.{applyPlan}
 use Rattle.filter.specs.declared.Stage.{Stage}
 use Rattle.filter.specs.declared.Stage.the-variants.{Shut, Predicting, Correcting}
 use Rattle.filter.specs.declared.Filter.{Filter}
 use Rattle.filter.specs.declared.Answer.{Answer}
-use Rattle.filter.specs.declared.measurement.Measurement.{Measurement}
-use Rattle.filter.specs.Filters.{isShut, isPredicting, isCorrecting, seen, close}
-use Rattle.filter.specs.Calls.{Call, closing, close-prediction, close-correction, close-correction-flat, measurement, closed, plan}
+use Rattle.filter.specs.Filters.{isShut, isPredicting, isCorrecting, seen, closedWith}
+use Rattle.filter.specs.Calls.{Call, closing, close-prediction, close-correction, close-correction-flat, closed, weightedFrom, flatFrom, plan}
 use Rattle.filter.specs.Steps.{step, answered, closedBy}
 use Rattle.filter.proofs.Taken.{Told, stayed, accepted-as, stopped, made}
 
@@ -50,31 +47,24 @@ module _ (f : Format) (s : Filter) where
   pub predicting-is : (v : List Float) → isPredicting (s .stage) ≡ true → plan f (seen s) (closing (close-prediction v)) ≡ mapped (closed (s .«drawn_weights») (propagatedOf v) false) (predicting v)
   predicting-is v h = let e = predicting-open (s .stage) h in rw e
 
-  -- what a correction is given, and its plan
-  abbrev pub givenOf : ℕ → List Kind → Measurement → Given
-  givenOf m kinds v = given (s .n) m (s .x) (s .p) (s .«drawn_points») (v .observed) (w0mOf f (s .n) (s .params)) (s .«drawn_weights») (v .z) (v .r) (s .kinds) (widened kinds)
-
-  pub correcting-is : (m : ℕ) (z r : List Float) (kinds : List Kind) (observed : List Float) → isCorrecting (s .stage) ≡ true → plan f (seen s) (closing (close-correction m z r kinds observed)) ≡ mapped (closed (s .«drawn_weights») (s .«drawn_points») true) (correctPlan f (givenOf m kinds (measurement (s .n) m z r observed)))
+  -- the two closes of a correction
+  pub correcting-is : (m : ℕ) (z r : List Float) (kinds : List Kind) (observed : List Float) → isCorrecting (s .stage) ≡ true → plan f (seen s) (closing (close-correction m z r kinds observed)) ≡ mapped (closed (s .«drawn_weights») (s .«drawn_points») true) (applyPlan f (weightedFrom f s m z r kinds observed))
   correcting-is m z r kinds observed h = let e = correcting-open (s .stage) h in rw e
 
-  -- the same by flat averages
-  abbrev pub flatOn : ℕ → Measurement → Plan Moment
-  flatOn m v = flatPlan f (s .n) m (s .x) (s .p) (s .«drawn_points») (v .observed) (v .z) (v .r)
-
-  pub correcting-flat-is : (m : ℕ) (z r observed : List Float) → isCorrecting (s .stage) ≡ true → plan f (seen s) (closing (close-correction-flat m z r observed)) ≡ mapped (closed (s .«drawn_weights») (s .«drawn_points») true) (flatOn m (measurement (s .n) m z r observed))
+  pub correcting-flat-is : (m : ℕ) (z r observed : List Float) → isCorrecting (s .stage) ≡ true → plan f (seen s) (closing (close-correction-flat m z r observed)) ≡ mapped (closed (s .«drawn_weights») (s .«drawn_points») true) (applyPlan f (flatFrom f s m z r observed))
   correcting-flat-is m z r observed h = let e = correcting-open (s .stage) h in rw e
 
 -- ---- what the steps have made: refused, or installed with the opened weights and points v
 
 -- by whether the number is 0
 either : (s : Filter) (v : List Float) (stale : Bool) (m : Moments) (a : Answer)
-    → (m .refusal ≡ 0 → accepted-as (close s (record { x = m .x; p = m .p; installed = record { weights = s .«drawn_weights»; points = v }; stale = stale })) ≡ a)
+    → (m .refusal ≡ 0 → accepted-as (closedWith s v stale (m .x) (m .p)) ≡ a)
     → ((m .refusal ≡ 0 → ⊥) → answered (stayed s (m .refusal)) ≡ a)
     → closedBy s v stale m ≡ a
 either s v stale m a made refused = go (eqb (m .refusal) 0) (λ h. eqb-true _ _ h) (λ h. eqb-false _ _ h)
   where
     go : (t : Bool) → (t ≡ true → m .refusal ≡ 0) → (t ≡ false → m .refusal ≡ 0 → ⊥)
-        → cond t (accepted-as (close s (record { x = m .x; p = m .p; installed = record { weights = s .«drawn_weights»; points = v }; stale = stale }))) (answered (stayed s (m .refusal))) ≡ a
+        → cond t (accepted-as (closedWith s v stale (m .x) (m .p))) (answered (stayed s (m .refusal))) ≡ a
     go true h k = made (h refl)
     go false h k = refused (k refl)
 
@@ -86,6 +76,6 @@ module _ {f : Format} {s : Filter} {c : Call} (t : Told f s c) (z : t .told ≡ 
   closes-so d =
       d
       ∙ either s v stale m (answered (step f s c))
-      (λ h. ap (λ (x : Moments). accepted-as (close s (record { x = x .x; p = x .p; installed = record { weights = s .«drawn_weights»; points = v }; stale = stale }))) e
+      (λ h. ap (λ (x : Moments). accepted-as (closedWith s v stale (x .x) (x .p))) e
       ∙ ap answered (sym (made t z (closed (s .«drawn_weights») v stale) p is nothingMade (sym number-is ∙ h))))
       (λ h. ap (λ (x : ℕ). answered (stayed s x)) number-is ∙ ap answered (sym (stopped t z (closed (s .«drawn_weights») v stale) p is (λ y. h (number-is ∙ y)))))

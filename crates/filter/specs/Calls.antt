@@ -15,8 +15,8 @@ use Rattle.sigma.specs.Weights.{scaleOf, w0mOf, weightsOf}
 use Rattle.sigma.specs.Draw.{pointNumbers, drawPlan}
 use Rattle.sigma.specs.Predict.{Moment, predictPlan}
 use Rattle.correction.specs.Leaves.{widened}
-use Rattle.correction.specs.Correct.{given, correctPlan}
-use Rattle.correction.specs.Flat.{flatPlan}
+use Rattle.correction.specs.Correct.{Head, applyPlan, given, weightedHead}
+use Rattle.correction.specs.Flat.{flatHead}
 use Rattle.filter.specs.declared.Stage.{Stage}
 use Rattle.filter.specs.declared.Stage.the-variants.{Shut, Predicting, Correcting}
 use Rattle.filter.specs.declared.Weighted.{Weighted}
@@ -176,6 +176,17 @@ module _ (f : Format) where
   abbrev pub draws : (Weighted → Setting) → Filter → Plan Done
   draws to s = mapped (opened to (s .n) (weightsOf f (s .n) (s .params))) (drawPlan f (s .n) (s .x) (s .p) (scaleOf f (s .n) (s .params)))
 
+  -- from where the steps that the two closes of a correction share start
+  abbrev pub weightedFrom : Filter → ℕ → List Float → List Float → List Kind → List Float → Head
+  weightedFrom s m z r kinds observed =
+      let v = measurement (s .n) m z r observed in
+      weightedHead f (given (s .n) m (s .x) (s .p) (s .«drawn_points») (v .observed) (w0mOf f (s .n) (s .params)) (s .«drawn_weights») (v .z) (v .r) (s .kinds) (widened kinds))
+
+  abbrev pub flatFrom : Filter → ℕ → List Float → List Float → List Float → Head
+  flatFrom s m z r observed =
+      let v = measurement (s .n) m z r observed in
+      flatHead f (s .n) m (s .x) (s .p) (s .«drawn_points») (v .observed) (v .z) (v .r)
+
   abbrev pub plan : Filter → Call → Plan Done
   plan s (setting (set-x v)) = finish (done (sets (x-set (front (s .n) v (zeros 8)))) [])
   plan s (setting (set-p v)) = finish (done (sets (p-set (front (s .n * s .n) v (zeros 64)))) [])
@@ -187,14 +198,8 @@ module _ (f : Format) where
   plan s (closing (close-prediction v)) =
       let points = front (pointNumbers (s .n)) v (zeros 136) in
       mapped (closed (s .«drawn_weights») points false) (predictPlan f (s .n) points (w0mOf f (s .n) (s .params)) (s .«drawn_weights») (s .kinds) (s .q))
-  plan s (closing (close-correction m z r kinds observed)) =
-      let v = measurement (s .n) m z r observed in
-      mapped (closed (s .«drawn_weights») (s .«drawn_points») true)
-      (correctPlan f (given (s .n) m (s .x) (s .p) (s .«drawn_points») (v .observed) (w0mOf f (s .n) (s .params)) (s .«drawn_weights») (v .z) (v .r) (s .kinds) (widened kinds)))
-  plan s (closing (close-correction-flat m z r observed)) =
-      let v = measurement (s .n) m z r observed in
-      mapped (closed (s .«drawn_weights») (s .«drawn_points») true)
-      (flatPlan f (s .n) m (s .x) (s .p) (s .«drawn_points») (v .observed) (v .z) (v .r))
+  plan s (closing (close-correction m z r kinds observed)) = mapped (closed (s .«drawn_weights») (s .«drawn_points») true) (applyPlan f (weightedFrom s m z r kinds observed))
+  plan s (closing (close-correction-flat m z r observed)) = mapped (closed (s .«drawn_weights») (s .«drawn_points») true) (applyPlan f (flatFrom s m z r observed))
   plan s abandon = finish (done abandons [])
   plan s (reading (read-x b)) = finish (done reads (take (s .n) (s .x)))
   plan s (reading (read-p b)) = finish (done reads (take (s .n * s .n) (s .p)))

@@ -93,6 +93,10 @@ set s (opened-correction d) = withDrawn s Correcting d
 abbrev pub close : Filter → Closing → Filter
 close s c = filter (s .n) (c .x) (c .p) (s .q) (s .params) (s .kinds) (c .installed .weights) (c .installed .points) (c .stale) Shut (zeros 17) (zeros 136)
 
+-- the same with these x and P, the points v and the opened weights
+abbrev pub closedWith : Filter → List Float → Bool → List Float → List Float → Filter
+closedWith s v stale x p = close s (record { x = x; p = p; installed = record { weights = s .«drawn_weights»; points = v }; stale = stale })
+
 -- in every bit but scratch, what it was before the open call; scratch is +0
 abbrev pub abandoned : Filter → Filter
 abandoned s = withDrawn s Shut nothingDrawn

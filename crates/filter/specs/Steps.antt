@@ -15,7 +15,7 @@ use Rattle.filter.specs.declared.Answer.{Answer}
 use Rattle.filter.specs.declared.ParamsRead.{ParamsRead}
 use Rattle.filter.specs.declared.StaleRead.{StaleRead}
 use Rattle.filter.specs.Asked.{guarded}
-use Rattle.filter.specs.Filters.{seen, close, changed}
+use Rattle.filter.specs.Filters.{seen, closedWith, changed}
 use Rattle.filter.specs.Calls.{Call, asks, Done, plan}
 
 -- what a call comes to on a filter as seen
@@ -49,7 +49,7 @@ answered t = record { filter = t .filter; refusal = t .reply .refusal }
 abbrev pub closedBy : Filter → List Float → Bool → Moments → Answer
 closedBy s points stale m =
     cond (eqb (m .refusal) 0)
-    (record { filter = close s (record { x = m .x; p = m .p; installed = record { weights = s .«drawn_weights»; points = points }; stale = stale }); refusal = taken })
+    (record { filter = closedWith s points stale (m .x) (m .p); refusal = taken })
     (record { filter = s; refusal = m .refusal })
 
 -- three numbers, or +0s where a reading is refused

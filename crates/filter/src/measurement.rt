@@ -24,7 +24,7 @@ fn refuse(refusal: u8) -> Measurement
     }
 }
 
-// The tests of m and of the slices have their places in the order of the refusals beside those of the call: whether it fits, whether its half-turns are finite (5), whether the kinds that have to be plain are (10), whether its kinds pass (6).
+// m and the slices are tested here; what else the close has tested takes its place among them, in the order of the refusals: whether it fits (3), whether its half-turns are finite (turns: 5), whether the kinds that have to be plain are (10), whether its kinds pass (6).
 pub fn take_in(
     fits: bool,
     n: usize,

@@ -1,11 +1,15 @@
 -- `correct_with_weights_residuals` meets its contract: what each callee has made stands in the head, and the shared steps do the rest. Assumes nothing.
-use mathlib.Core.Path.{_≡_, refl}
+use Prim.Native.Nat.{_+_, _*_}
+use mathlib.Core.Path.{ap, ap₂, _∙_}
+use mathlib.Core.List.{List}
 use borrow.Author.Needs.{needs}
 use native.Mathlib.Omega.{arith}
-use lib.Ieee.{binary64}
+use lib.Ieee.{Float, binary64}
+use Rattle.matrix.specs.Sums.{plusOf}
+use Rattle.sigma.specs.Mean.{meanOf}
+use Rattle.sigma.specs.Spread.{deviationsOf, spreadOf}
 use Rattle.sigma.proofs.Flat.{cells-in}
 use Rattle.correction.specs.Leaves.{widened}
-use Rattle.correction.specs.Correct.{Head, given, weightedHead}
 use Rattle.correction.proofs.Entries.{from-head}
 use Rattle.correction.proofs.correct_with_weights_residuals.Statement.{statement}
 use Rattle.correction.proofs.correct_with_weights_residuals.Tie as tie
@@ -26,20 +30,17 @@ returns c =
     let z = p .before .before .before .before .before in
     let y = z .before .before in
     let a = y .before .before .args in
-    let wide = y .before .widened .result in
-    let made : Head = record { n = a .n; m = a .m; x = a .x .now; p = a .p .now; z = a .z .now; measured = wide; zm = y .anchored-mean .result; s = p .plus .result; xm = x .before .before .before .before .before .anchored-mean2 .result; c = x .spread2 .result } in
-    let is : made ≡ weightedHead binary64 (given (a .n) (a .m) (a .x .now) (a .p .now) (a .points .now) (a .observed .now) (a .w0m) (a .w .now) (a .z .now) (a .r .now) (a .kinds) (widened (a .measured))) =
-    rw (
-      ← y .before .widened .ensures,
-      ← y .anchored-mean .ensures,
-      ← z .deviations .ensures,
-      ← p .before .before .spread .ensures,
-      ← p .plus .ensures,
-      ← x .before .before .before .before .before .anchored-mean2 .ensures,
-      ← x .before .before .before .deviations2 .ensures,
-      ← x .spread2 .ensures,
-    ) refl in
-    from-head binary64 made (c .apply-correction .ensures) is
+    let t = a .n + a .n in
+    let wide = y .before .widened .ensures in
+    let zm = y .anchored-mean .ensures ∙ ap (meanOf binary64 (a .observed .now) (a .m) t (a .w0m) (a .w .now)) wide in
+    let dz = z .deviations .ensures ∙ ap₂ (deviationsOf binary64 (a .observed .now) (a .m) t) zm wide in
+    let xm = x .before .before .before .before .before .anchored-mean2 .ensures in
+    let dx = x .before .before .before .deviations2 .ensures ∙ ap (λ (u : List Float). deviationsOf binary64 (a .points .now) (a .n) t u (a .kinds)) xm in
+    from-head binary64
+    (record { n = a .n; m = a .m; x = a .x .now; p = a .p .now; z = a .z .now; measured = widened (a .measured); zm = y .anchored-mean .result; s = p .plus .result; xm = x .before .before .before .before .before .anchored-mean2 .result; c = x .spread2 .result })
+    (rw (← wide) (c .apply-correction .ensures)) zm
+    (p .plus .ensures ∙ ap (plusOf binary64 (a .m * a .m) (a .r .now)) (p .before .before .spread .ensures ∙ ap (λ (d : List Float). spreadOf binary64 d (a .m) d (a .m) (a .w .now) t) dz)) xm
+    (x .spread2 .ensures ∙ ap₂ (λ (d e : List Float). spreadOf binary64 d (a .n) e (a .m) (a .w .now) t) dx dz)
 
 pub correct-with-weights-residuals-spec : {M : Type 1} → statement M
 correct-with-weights-residuals-spec =

@@ -1,12 +1,15 @@
 -- `flat::correct_nonlinear` meets its contract: what each callee has made stands in the head, and the shared steps do the rest. Assumes nothing.
-use mathlib.Core.Path.{_≡_, refl}
+use Prim.Native.Nat.{_+_, _*_}
+use mathlib.Core.Path.{ap, ap₂, _∙_}
+use mathlib.Core.List.{List}
 use borrow.Author.Needs.{needs}
 use native.Mathlib.Omega.{arith}
-use lib.Ieee.{binary64}
+use lib.Ieee.{Float, binary64}
+use Rattle.matrix.specs.Sums.{plusOf}
+use Rattle.sigma.specs.Spread.{deviationsOf}
 use Rattle.sigma.proofs.Flat.{cells-in}
 use Rattle.correction.specs.Leaves.{noKinds}
-use Rattle.correction.specs.Correct.{Head}
-use Rattle.correction.specs.Flat.{flatHead}
+use Rattle.correction.specs.Flat.{flatSpreadOf}
 use Rattle.correction.proofs.Entries.{from-head}
 use Rattle.correction.proofs.flat.correct_nonlinear.Statement.{statement}
 use Rattle.correction.proofs.flat.correct_nonlinear.Tie as tie
@@ -24,18 +27,16 @@ returns c =
     let z = p .before .before .before .before .before in
     let y = z .before .before in
     let a = y .before .args in
-    let made : Head = record { n = a .n; m = a .m; x = a .x .now; p = a .p .now; z = a .z .now; measured = noKinds; zm = y .flat-mean .result; s = p .plus .result; xm = x .before .before .before .before .before .flat-mean2 .result; c = x .flat-spread2 .result } in
-    let is : made ≡ flatHead binary64 (a .n) (a .m) (a .x .now) (a .p .now) (a .points .now) (a .observed .now) (a .z .now) (a .r .now) =
-    rw (
-      ← y .flat-mean .ensures,
-      ← z .deviations .ensures,
-      ← p .before .before .flat-spread .ensures,
-      ← p .plus .ensures,
-      ← x .before .before .before .before .before .flat-mean2 .ensures,
-      ← x .before .before .before .deviations2 .ensures,
-      ← x .flat-spread2 .ensures,
-    ) refl in
-    from-head binary64 made (c .apply-correction .ensures) is
+    let t = a .n + a .n in
+    let zm = y .flat-mean .ensures in
+    let dz = z .deviations .ensures ∙ ap (λ (u : List Float). deviationsOf binary64 (a .observed .now) (a .m) t u noKinds) zm in
+    let xm = x .before .before .before .before .before .flat-mean2 .ensures in
+    let dx = x .before .before .before .deviations2 .ensures ∙ ap (λ (u : List Float). deviationsOf binary64 (a .points .now) (a .n) t u noKinds) xm in
+    from-head binary64
+    (record { n = a .n; m = a .m; x = a .x .now; p = a .p .now; z = a .z .now; measured = noKinds; zm = y .flat-mean .result; s = p .plus .result; xm = x .before .before .before .before .before .flat-mean2 .result; c = x .flat-spread2 .result })
+    (c .apply-correction .ensures) zm
+    (p .plus .ensures ∙ ap (plusOf binary64 (a .m * a .m) (a .r .now)) (p .before .before .flat-spread .ensures ∙ ap (λ (d : List Float). flatSpreadOf binary64 d (a .m) d (a .m) t) dz)) xm
+    (x .flat-spread2 .ensures ∙ ap₂ (λ (d e : List Float). flatSpreadOf binary64 d (a .n) e (a .m) t) dx dz)
 
 pub correct-nonlinear-spec : {M : Type 1} → statement M
 correct-nonlinear-spec =

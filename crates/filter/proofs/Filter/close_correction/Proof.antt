@@ -11,15 +11,15 @@ use Rattle.floats.specs.Numbers.{allFinite}
 use Rattle.matrix.specs.Results.{run}
 use Rattle.sigma.specs.Predict.{moments}
 use Rattle.correction.specs.Leaves.{widened}
-use Rattle.correction.specs.Correct.{given, correctPlan, correctOf}
-use Rattle.filter.specs.Calls.{Call, closing, close-correction, inKinds, observedNumbers, measurement}
+use Rattle.correction.specs.Correct.{applyPlan, given, correctOf}
+use Rattle.filter.specs.Calls.{Call, closing, close-correction, inKinds, observedNumbers, weightedFrom}
 use Rattle.filter.specs.declared.measurement.Measurement.{Measurement}
 use Rattle.filter.proofs.KindTests.{all-clear, all-pass}
 use Rattle.filter.proofs.Order.{tested}
 use Rattle.filter.proofs.Lines.{finite-third, third-finite}
 use Rattle.filter.proofs.Taken.{Told, turned-away, all-passed}
 use Rattle.filter.proofs.Measuring.{Lent, number-in-order, sizes-in, taken-in}
-use Rattle.filter.proofs.Closing.{givenOf, correcting-is, closes-so}
+use Rattle.filter.proofs.Closing.{correcting-is, closes-so}
 use Rattle.filter.proofs.Filter.close_correction.Statement.{statement}
 use Rattle.filter.proofs.Filter.close_correction.Tie as tie
 
@@ -51,7 +51,7 @@ asked c =
 abbrev went : tie.After-correct-with-weights-residuals → tie.Else1
 went c = c .before .before .before .before .before .before .before .before .before .before .before .before .before .before .before .before .before .before
 
-made-is : (c : tie.After-correct-with-weights-residuals) → c .correct-with-weights-residuals .result ≡ moments (run (correctPlan binary64 (givenOf binary64 (start (went c .before .before) .args .self) (start (went c .before .before) .args .m) (start (went c .before .before) .args .kinds) (measurement (start (went c .before .before) .args .self .n) (start (went c .before .before) .args .m) (now (start (went c .before .before) .args .z)) (now (start (went c .before .before) .args .r)) (now (start (went c .before .before) .args .observed))))))
+made-is : (c : tie.After-correct-with-weights-residuals) → let a = start (went c .before .before) .args in c .correct-with-weights-residuals .result ≡ moments (run (applyPlan binary64 (weightedFrom binary64 (a .self) (a .m) (now (a .z)) (now (a .r)) (a .kinds) (now (a .observed)))))
 made-is c =
     let a = start (went c .before .before) .args in
     let s = a .self in

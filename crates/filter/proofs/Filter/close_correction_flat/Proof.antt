@@ -6,14 +6,15 @@ use denote.Ref.{now}
 use lib.Ieee.{binary64}
 use Rattle.matrix.specs.Results.{run}
 use Rattle.sigma.specs.Predict.{moments}
+use Rattle.correction.specs.Correct.{applyPlan}
 use Rattle.correction.specs.Flat.{flatOf}
-use Rattle.filter.specs.Calls.{Call, closing, close-correction-flat, measurement}
+use Rattle.filter.specs.Calls.{Call, closing, close-correction-flat, flatFrom}
 use Rattle.filter.specs.declared.measurement.Measurement.{Measurement}
 use Rattle.filter.proofs.Sizes.{and-true}
 use Rattle.filter.proofs.Order.{tested}
 use Rattle.filter.proofs.Taken.{Told, turned-away, all-passed}
 use Rattle.filter.proofs.Measuring.{Lent, number-in-order, sizes-in, taken-in}
-use Rattle.filter.proofs.Closing.{flatOn, correcting-flat-is, closes-so}
+use Rattle.filter.proofs.Closing.{correcting-flat-is, closes-so}
 use Rattle.filter.proofs.Filter.close_correction_flat.Statement.{statement}
 use Rattle.filter.proofs.Filter.close_correction_flat.Tie as tie
 
@@ -33,7 +34,7 @@ asked c = record { told = _; is = tested binary64 _ (number-in-order (lent c)) (
 abbrev went : tie.After-correct-nonlinear → tie.Else1
 went c = c .before .before .before .before .before .before .before .before .before .before .before .before .before
 
-made-is : (c : tie.After-correct-nonlinear) → c .correct-nonlinear .result ≡ moments (run (flatOn binary64 (start (went c .before .before) .args .self) (start (went c .before .before) .args .m) (measurement (start (went c .before .before) .args .self .n) (start (went c .before .before) .args .m) (now (start (went c .before .before) .args .z)) (now (start (went c .before .before) .args .r)) (now (start (went c .before .before) .args .observed)))))
+made-is : (c : tie.After-correct-nonlinear) → let a = start (went c .before .before) .args in c .correct-nonlinear .result ≡ moments (run (applyPlan binary64 (flatFrom binary64 (a .self) (a .m) (now (a .z)) (now (a .r)) (now (a .observed)))))
 made-is c =
     let a = start (went c .before .before) .args in
     let s = a .self in
