@@ -175,7 +175,7 @@ def spread(a, da, b, db, n, weights):
     return out
 
 
-# ---- the two closes
+# ---- the closes of a prediction and of a weighted correction
 
 def reconstruct_prediction(n, kinds, q, points, weights):
     mean = checked(anchored_mean(points, n, n, kinds, weights), 'mean')
