@@ -10,18 +10,34 @@ use Rattle.filter.specs.declared.measurement.Measurement.{Measurement}
 use Rattle.filter.specs.Asked.{within, long, every, inOrder}
 use Rattle.filter.specs.Calls.{sized, observedNumbers, lentMeasured, measurement}
 
--- o once all is passed, the tests in their order: that the call fits, the sizes, the lengths, that the numbers of the slices are finite and the close's half-turns too (turns), that the kinds that have to be plain are, that the close's kinds pass 6
-abbrev pub lentInOrder : {A : Type 0} → Bool → ℕ → ℕ → List Float → List Float → List Float → Bool → Bool → Bool → Outcome A → Outcome A
-lentInOrder fits n m z r observed turns plain passing o =
-    inOrder fits
-    (every within (record { value = n; from = 1; to = 8 } ∷ sized m 1 4))
-    (every long (lentMeasured n m z r observed))
-    false
-    (allFinite (take m z ++ (take (m * m) r ++ take (observedNumbers n m) observed)) && turns)
-    plain passing o
+-- what is lent to a filter of n states, and what else the close has tested: that it fits, that its half-turns are finite, that the kinds that have to be plain are, that its kinds pass 6
+pub record Lending : Type 0 where
+  pub fits : Bool
+  pub n : ℕ
+  pub m : ℕ
+  pub z : List Float
+  pub r : List Float
+  pub observed : List Float
+  pub turns : Bool
+  pub plain : Bool
+  pub passing : Bool
 
-abbrev pub takenIn : Bool → ℕ → ℕ → List Float → List Float → List Float → Bool → Bool → Bool → Outcome Measurement
-takenIn fits n m z r observed turns plain passing = lentInOrder fits n m z r observed turns plain passing (accepted (measurement n m z r observed))
+module _ (l : Lending) where
+  -- 1, 2 and 5 of what is lent
+  abbrev pub sizesDo : Bool
+  sizesDo = every within (record { value = l .n; from = 1; to = 8 } ∷ sized (l .m) 1 4)
+
+  abbrev pub longEnough : Bool
+  longEnough = every long (lentMeasured (l .n) (l .m) (l .z) (l .r) (l .observed))
+
+  abbrev pub numbersFinite : Bool
+  numbersFinite = allFinite (take (l .m) (l .z) ++ (take (l .m * l .m) (l .r) ++ take (observedNumbers (l .n) (l .m)) (l .observed))) && l .turns
+
+  abbrev pub lentInOrder : {A : Type 0} → Outcome A → Outcome A
+  lentInOrder o = inOrder (l .fits) sizesDo longEnough false numbersFinite (l .plain) (l .passing) o
+
+  abbrev pub takenIn : Outcome Measurement
+  takenIn = lentInOrder (accepted (measurement (l .n) (l .m) (l .z) (l .r) (l .observed)))
 
 -- refused by a number: +0 throughout
 abbrev pub unmeasured : ℕ → Measurement

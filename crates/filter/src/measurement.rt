@@ -36,7 +36,7 @@ pub fn take_in(
     plain: bool,
     passing: bool,
 ) -> Measurement
-    ensures { λ q. ⌜ q ≡ measured (takenIn fits n m (now (z .entry)) (now (r .entry)) (now (observed .entry)) turns plain passing) ⌝ }
+    ensures { λ q. ⌜ q ≡ measured (takenIn (record { fits = fits; n = n; m = m; z = now (z .entry); r = now (r .entry); observed = now (observed .entry); turns = turns; plain = plain; passing = passing })) ⌝ }
 {
     let states = tests::is_sized(n);
     let measurements = tests::in_range(1, 4, m);

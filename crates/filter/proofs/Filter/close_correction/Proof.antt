@@ -14,6 +14,7 @@ use Rattle.correction.specs.Leaves.{widened}
 use Rattle.correction.specs.Correct.{applyPlan, given, correctOf}
 use Rattle.filter.specs.Calls.{Call, closing, close-correction, inKinds, observedNumbers, weightedFrom}
 use Rattle.filter.specs.declared.measurement.Measurement.{Measurement}
+use Rattle.filter.specs.Measurement.{Lending}
 use Rattle.filter.proofs.KindTests.{all-clear, all-pass}
 use Rattle.filter.proofs.Order.{tested}
 use Rattle.filter.proofs.Lines.{finite-third, third-finite}
@@ -29,7 +30,10 @@ call s = closing (close-correction (s .args .m) (now (s .args .z)) (now (s .args
 abbrev start : tie.After-take-in → tie.Start
 start c = c .before .before .before .before .before .before .before
 
-abbrev lent : (c : tie.After-take-in) → Lent (c .before .before .before .is-correcting .result) (start c .args .self .n) (start c .args .m) (now (start c .args .z)) (now (start c .args .r)) (now (start c .args .observed)) (c .before .before .no-kind-refused .result) true (c .before .no-kind-refused2 .result) (c .take-in .result)
+abbrev lending : tie.After-take-in → Lending
+lending c = let a = start c .args in record { fits = c .before .before .before .is-correcting .result; n = a .self .n; m = a .m; z = now (a .z); r = now (a .r); observed = now (a .observed); turns = c .before .before .no-kind-refused .result; plain = true; passing = c .before .no-kind-refused2 .result }
+
+abbrev lent : (c : tie.After-take-in) → Lent (lending c) (c .take-in .result)
 lent c = record { is = c .take-in .ensures }
 
 abbrev asked : (c : tie.After-take-in) → Told binary64 (start c .args .self) (call (start c))

@@ -10,6 +10,7 @@ use Rattle.correction.specs.Correct.{applyPlan}
 use Rattle.correction.specs.Flat.{flatOf}
 use Rattle.filter.specs.Calls.{Call, closing, close-correction-flat, flatFrom}
 use Rattle.filter.specs.declared.measurement.Measurement.{Measurement}
+use Rattle.filter.specs.Measurement.{Lending}
 use Rattle.filter.proofs.Sizes.{and-true}
 use Rattle.filter.proofs.Order.{tested}
 use Rattle.filter.proofs.Taken.{Told, turned-away, all-passed}
@@ -24,7 +25,10 @@ call s = closing (close-correction-flat (s .args .m) (now (s .args .z)) (now (s 
 abbrev start : tie.After-take-in → tie.Start
 start c = c .before .before .before .before .before .before .before
 
-abbrev lent : (c : tie.After-take-in) → Lent (c .before .before .before .is-correcting .result) (start c .args .self .n) (start c .args .m) (now (start c .args .z)) (now (start c .args .r)) (now (start c .args .observed)) true (c .before .all-plain .result) true (c .take-in .result)
+abbrev lending : tie.After-take-in → Lending
+lending c = let a = start c .args in record { fits = c .before .before .before .is-correcting .result; n = a .self .n; m = a .m; z = now (a .z); r = now (a .r); observed = now (a .observed); turns = true; plain = c .before .all-plain .result; passing = true }
+
+abbrev lent : (c : tie.After-take-in) → Lent (lending c) (c .take-in .result)
 lent c = record { is = c .take-in .ensures }
 
 abbrev asked : (c : tie.After-take-in) → Told binary64 (start c .args .self) (call (start c))
