@@ -1,6 +1,6 @@
 -- Each call that is taken on a sound filter installs what is right and hands out finite numbers: a line for each call. Assumes nothing.
 use Prim.Native.Nat.{ℕ, _+_, _-_, _*_, _≤_}
-use mathlib.Core.Path.{_≡_, refl, sym, _∙_}
+use mathlib.Core.Path.{_≡_, refl, _∙_}
 use mathlib.Core.Bool.{Bool, true, false, cond}
 use mathlib.Core.List.{List, [], _∷_}
 use native.Mathlib.Nat.{mul-le-mul}
@@ -23,15 +23,14 @@ use Rattle.sigma.specs.Draw.{pointNumbers, pointAt, drawPlan}
 use Rattle.sigma.specs.Predict.{Moment, predictPlan}
 use Rattle.correction.specs.Correct.{Head, applyPlan}
 use Rattle.filter.specs.declared.Filter.{Filter}
-use Rattle.filter.specs.declared.Stage.{Stage}
-use Rattle.filter.specs.declared.Stage.the-variants.{Shut, Predicting, Correcting}
 use Rattle.filter.specs.declared.Weighted.{Weighted}
 use Rattle.filter.specs.Asked.{fit, by-params, by-kind, inRange, every}
-use Rattle.filter.specs.Filters.{isShut, isPredicting, isCorrecting, seen, Setting, x-set, p-set, q-set, params-set, kinds-set, opened-prediction, opened-correction, Closing, Change, sets, closes, abandons, reads}
+use Rattle.filter.specs.Filters.{isShut, seen, Setting, x-set, p-set, q-set, params-set, kinds-set, opened-prediction, opened-correction, Closing, Change, sets, closes, abandons, reads}
 use Rattle.filter.specs.Calls.{set-x, set-p, set-q, set-params, set-kind, open-prediction, open-correction, close-prediction, close-correction, close-correction-flat, read-x, read-p, read-q, read-points, read-params, read-stale, Call, setting, closing, abandon, reading, inKinds, asKinds, asks, Done, opened, closed, draws, plan, weightedFrom, flatFrom}
+use Rattle.filter.proofs.Closing.{predicting-open, correcting-open, predicting}
 use Rattle.demands.specs.Sound.{Filled, Sound}
 use Rattle.demands.proofs.Passed.{both, Passed, Ran, ran-finish, ran-after, ran-listed, ran-either, ran-mapped}
-use Rattle.demands.proofs.Listed.{drawing, predicting}
+use Rattle.demands.proofs.Listed.{drawing}
 use Rattle.demands.proofs.Arrays.{all-front, all-places, filled-places, filled-rows, filled-front, kinds-finite, kinds-fit}
 
 -- ---- what a change installs is right for the filter
@@ -64,7 +63,7 @@ module _ (f : Format) (n : ℕ) where
     pub change : Fine (d .change)
     pub given : allFinite (d .given) ≡ true
 
--- ---- sizes and stages
+-- ---- sizes
 
 pub in-range : (from to n : ℕ) → inRange from to n ≡ true → (from ≤ n) × (n ≤ to)
 unfolding inRange
@@ -75,16 +74,6 @@ points-room n h = let k : n + n + 1 ≤ 17 = omega arith in mul-le-mul k h
 
 pub square-room : (n : ℕ) → n ≤ 8 → n * n ≤ 64
 square-room n h = mul-le-mul h h
-
-predicting-open : (t : Stage) → isPredicting t ≡ true → isShut t ≡ false
-predicting-open Shut h = sym h
-predicting-open Predicting h = refl
-predicting-open Correcting h = refl
-
-correcting-open : (t : Stage) → isCorrecting t ≡ true → isShut t ≡ false
-correcting-open Shut h = sym h
-correcting-open Predicting h = refl
-correcting-open Correcting h = refl
 
 -- ---- the steps
 

@@ -11,20 +11,16 @@ use Rattle.matrix.specs.Results.{Plan, finish, planned}
 use Rattle.matrix.proofs.Mapped.{planned-mapped}
 use Rattle.sigma.specs.Weights.{scaleOf, w0mOf, weightsOf}
 use Rattle.sigma.specs.Draw.{pointNumbers, drawPlan}
-use Rattle.sigma.specs.Predict.{Moment, predictPlan}
 use Rattle.correction.specs.Correct.{applyPlan}
 use Rattle.filter.specs.declared.Filter.{Filter}
 use Rattle.filter.specs.Filters.{opened-prediction, opened-correction}
 use Rattle.filter.specs.Calls.{setting, closing, open-prediction, open-correction, close-prediction, close-correction, close-correction-flat, opened, closed, draws, plan, weightedFrom, flatFrom}
+use Rattle.filter.proofs.Closing.{predicting}
 use Rattle.demands.specs.Listed.{listedAtOpen, listedAtPrediction, listedAtCorrection}
 
--- the steps of an opening that draws, and of a close prediction; those of the closes of a correction are `applyPlan`
-module _ (f : Format) (s : Filter) where
-  abbrev pub drawing : Plan (List Float)
-  drawing = drawPlan f (s .n) (s .x) (s .p) (scaleOf f (s .n) (s .params))
-
-  abbrev pub predicting : List Float → Plan Moment
-  predicting v = predictPlan f (s .n) (front (pointNumbers (s .n)) v (zeros 136)) (w0mOf f (s .n) (s .params)) (s .«drawn_weights») (s .kinds) (s .q)
+-- the steps of an opening that draws; those of the closes are `predicting` (filter/proofs/Closing.antt) and `applyPlan`
+abbrev pub drawing : Format → Filter → Plan (List Float)
+drawing f s = drawPlan f (s .n) (s .x) (s .p) (scaleOf f (s .n) (s .params))
 
 module _ (f : Format) (s : Filter) where
   pub open-prediction-lists : (b : List Float) → planned (plan f s (setting (open-prediction b))) ≡ listedAtOpen f (s .n) (s .x) (s .p) (scaleOf f (s .n) (s .params))

@@ -17,13 +17,14 @@ use Rattle.filter.specs.Asked.{Size}
 use Rattle.filter.specs.Filters.{seen, Setting, Closing, Change, sets, closes, abandons, reads}
 use Rattle.filter.specs.Calls.{set-x, set-p, set-q, set-params, set-kind, open-prediction, open-correction, close-prediction, close-correction, close-correction-flat, read-x, read-p, read-q, read-points, read-params, read-stale, Call, setting, closing, abandon, reading, fits, asks, Done, closed, plan, weightedFrom, flatFrom}
 use Rattle.filter.specs.Steps.{step}
+use Rattle.filter.proofs.Closing.{predicting}
 use Rattle.demands.specs.Rows.{Some, here, OutOfRange, IsTurn, IsFlat, FirstFails, Cause, stage, size, short, stale, kind, param, met, gives, Applies, place, ByStep}
 use Rattle.demands.specs.Rows as Row
 use Rattle.demands.specs.Sound.{end, and}
 use Rattle.demands.proofs.Rows.{two-ways, none}
 use Rattle.demands.proofs.Exactly.{exactly}
 use Rattle.demands.proofs.Passed.{Ran, ran-finish, ran-mapped, ran-either}
-use Rattle.demands.proofs.Listed.{drawing, predicting, open-prediction-lists, open-correction-lists, close-prediction-lists, close-correction-lists, close-correction-flat-lists}
+use Rattle.demands.proofs.Listed.{drawing, open-prediction-lists, open-correction-lists, close-prediction-lists, close-correction-lists, close-correction-flat-lists}
 use Rattle.demands.proofs.ByStep.{StepsOwn, met-by-step, draw-own, correct-own}
 
 -- the change that a call makes is one of its own sort

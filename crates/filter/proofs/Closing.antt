@@ -26,12 +26,12 @@ use Rattle.filter.proofs.Taken.{Told, stayed, accepted-as, stopped, mad
 
 -- ---- what was drawn is seen
 
-predicting-open : (t : Stage) → isPredicting t ≡ true → isShut t ≡ false
+pub predicting-open : (t : Stage) → isPredicting t ≡ true → isShut t ≡ false
 predicting-open Shut h = absurd (false≢true h)
 predicting-open Predicting h = refl
 predicting-open Correcting h = refl
 
-correcting-open : (t : Stage) → isCorrecting t ≡ true → isShut t ≡ false
+pub correcting-open : (t : Stage) → isCorrecting t ≡ true → isShut t ≡ false
 correcting-open Shut h = absurd (false≢true h)
 correcting-open Predicting h = refl
 correcting-open Correcting h = refl
