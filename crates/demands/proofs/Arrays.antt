@@ -1,13 +1,12 @@
--- Arrays as the invariant sees them: finite where in use, +0 where not; fronts of lent slices, and what is filled place by place or row by row. Assumes nothing.
-use Prim.Native.Nat.{ℕ, zero, suc, _+_, _-_, _*_, _≤_}
+-- Arrays as the invariant sees them: finite where in use, +0 where not; what an accepted step has made, and fronts of lent slices. Assumes nothing.
+use Prim.Native.Nat.{ℕ, zero, suc, _+_, _-_, _≤_}
 use mathlib.Core.Path.{_≡_, refl, sym, ap, _∙_}
 use mathlib.Core.Bool.{true}
 use mathlib.Core.List.{List, [], _∷_, _++_}
-use native.Mathlib.Nat.{suc-mul}
 use native.Mathlib.Omega.{arith}
-use lib.ListN.{length, take, drop, set, replicate, take-append-drop, getD}
-use lib.Seq.{take-at, drop-at, length-take-le, drop-set-lt}
-use lib.Ieee.{Float, Format}
+use lib.ListN.{length, take, drop, set, replicate, take-append-drop, getD, length-drop}
+use lib.Seq.{take-at, drop-at, length-take-le, getD-drop, ext-getD}
+use lib.Ieee.{Float, nan, Format}
 use lib.Ieee.Scale.{finite}
 use Rattle.floats.specs.Numbers.{plusZero, zeros, allFinite}
 use Rattle.floats.specs.Fronts.{front}
@@ -15,8 +14,9 @@ use Rattle.floats.proofs.Finite.{all-append, all-zeros}
 use Rattle.floats.proofs.Fronts.{length-front}
 use Rattle.angles.specs.Kinds.{numbersIn, plain}
 use Rattle.angles.specs.declared.Kind.{Kind}
-use Rattle.matrix.specs.Folds.{placesOf, rowOf, rowsOf}
-use Rattle.matrix.proofs.Cells.{length-zeros, length-places, length-rows}
+use Rattle.matrix.specs.Folds.{placesOf}
+use Rattle.matrix.proofs.Cells.{length-zeros, zeros-at}
+use Rattle.sigma.proofs.Accepted.{InUse}
 use Rattle.filter.specs.Asked.{by-kind, fit, every}
 use Rattle.filter.specs.Calls.{inKinds, asKinds}
 use Rattle.demands.specs.Sound.{Filled}
@@ -57,36 +57,17 @@ pub drop-zeros : (k m : ℕ) → drop k (zeros m) ≡ zeros (m - k)
 unfolding zeros
 drop-zeros k m = drop-same k m plusZero
 
-drop-places : (e : ℕ → Float) (d k : ℕ) (t : List Float) → k ≤ d → drop d (placesOf e k t) ≡ drop d t
-unfolding placesOf
-drop-places e d zero t h = refl
-drop-places e d (suc k) t h = drop-set-lt d (placesOf e k t) k (e k) (omega arith) ∙ drop-places e d k t (omega arith)
-
-module _ (e : ℕ → ℕ → Float) (n d : ℕ) where
-  drop-row : (i k : ℕ) (t : List Float) → i * n + k ≤ d → drop d (rowOf e n i k t) ≡ drop d t
-  unfolding rowOf
-  drop-row i zero t h = refl
-  drop-row i (suc k) t h = drop-set-lt d (rowOf e n i k t) (i * n + k) (e i k) (omega arith) ∙ drop-row i k t (omega arith)
-
-  drop-rows : (m : ℕ) (t : List Float) → m * n ≤ d → drop d (rowsOf e n m t) ≡ drop d t
-  unfolding rowsOf
-  drop-rows zero t h = refl
-  drop-rows (suc m) t h = drop-row m n (rowsOf e n m t) (omega (arith, suc-mul m n)) ∙ drop-rows m t (omega (arith, suc-mul m n))
-
 -- ---- arrays
 
-pub filled-places : (e : ℕ → Float) (k m : ℕ) → allFinite (take k (placesOf e k (zeros m))) ≡ true → Filled k m (placesOf e k (zeros m))
-filled-places e k m h = record {
-  long = length-places e k (zeros m) ∙ length-zeros m;
-  bounded = h;
-  unused = drop-places e k k (zeros m) (omega arith) ∙ drop-zeros k m;
-}
-
-pub filled-rows : (e : ℕ → ℕ → Float) (n k m : ℕ) → allFinite (take (k * n) (rowsOf e n k (zeros m))) ≡ true → Filled (k * n) m (rowsOf e n k (zeros m))
-filled-rows e n k m h = record {
-  long = length-rows e n k (zeros m) ∙ length-zeros m;
-  bounded = h;
-  unused = drop-rows e n (k * n) k (zeros m) (omega arith) ∙ drop-zeros (k * n) m;
+-- what an accepted step has made (`InUse` of sigma/proofs/Accepted.antt)
+pub in-use-filled : {k w : ℕ} {t : List Float} → InUse k w t → Filled k w t
+in-use-filled {k} {w} {t} u = record {
+  long = u .long;
+  bounded = u .fine;
+  unused =
+      let e : length (drop k t) ≡ w - k = length-drop k t ∙ ap (λ (m : ℕ). m - k) (u .long) in
+      ext-getD nan (drop k t) (zeros (w - k)) (e ∙ sym (length-zeros (w - k)))
+      (λ i h. getD-drop k t i nan ∙ u .rest (k + i) (omega arith) (omega arith) ∙ sym (zeros-at (w - k) i (omega arith)));
 }
 
 pub filled-front : (k m : ℕ) (s : List Float) → k ≤ length s → k ≤ m → allFinite (take k s) ≡ true → Filled k m (front k s (zeros m))

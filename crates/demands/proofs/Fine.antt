@@ -15,13 +15,15 @@ use Rattle.floats.specs.Numbers.{zeros, allFinite, aboveZero}
 use Rattle.floats.specs.Fronts.{front}
 use Rattle.floats.proofs.Finite.{all-zeros}
 use Rattle.angles.specs.Kinds.{plain}
-use Rattle.angles.specs.declared.Kind.{Kind}
 use Rattle.matrix.specs.Results.{mapped}
 use Rattle.sigma.specs.declared.Params.{Params}
 use Rattle.sigma.specs.Weights.{scaleOf, w0mOf, w0cOf, wiOf, weightAt, weightsOf, weightsPass}
-use Rattle.sigma.specs.Draw.{pointNumbers, pointAt, drawPlan}
-use Rattle.sigma.specs.Predict.{Moment, predictPlan}
+use Rattle.sigma.specs.Draw.{pointNumbers}
+use Rattle.sigma.specs.Predict.{Moment}
+use Rattle.sigma.proofs.Entries.{weights-placed}
+use Rattle.sigma.proofs.Accepted.{placed-in-use, MomentInUse, draw-accepted, predict-accepted}
 use Rattle.correction.specs.Correct.{Head, applyPlan}
+use Rattle.correction.proofs.Accepted.{apply-accepted}
 use Rattle.filter.specs.declared.Filter.{Filter}
 use Rattle.filter.specs.declared.Weighted.{Weighted}
 use Rattle.filter.specs.Asked.{fit, by-params, by-kind, inRange, every}
@@ -29,9 +31,9 @@ use Rattle.filter.specs.Filters.{isShut, seen, Setting, x-set, p-set, q-set, pa
 use Rattle.filter.specs.Calls.{set-x, set-p, set-q, set-params, set-kind, open-prediction, open-correction, close-prediction, close-correction, close-correction-flat, read-x, read-p, read-q, read-points, read-params, read-stale, Call, setting, closing, abandon, reading, inKinds, asKinds, asks, Done, opened, closed, draws, plan, weightedFrom, flatFrom}
 use Rattle.filter.proofs.Closing.{predicting-open, correcting-open, predicting}
 use Rattle.demands.specs.Sound.{Filled, Sound}
-use Rattle.demands.proofs.Passed.{both, Passed, Ran, ran-finish, ran-after, ran-listed, ran-either, ran-mapped}
+use Rattle.demands.proofs.Passed.{both, Passed, Ran, ran-finish, ran-either, ran-mapped}
 use Rattle.demands.proofs.Listed.{drawing}
-use Rattle.demands.proofs.Arrays.{all-front, all-places, filled-places, filled-rows, filled-front, kinds-finite, kinds-fit}
+use Rattle.demands.proofs.Arrays.{all-front, all-places, in-use-filled, filled-front, kinds-finite, kinds-fit}
 
 -- ---- what a change installs is right for the filter
 
@@ -94,38 +96,14 @@ module _ (f : Format) where
         go true = weights-bounded .0
         go false = weights-bounded .1
 
-    laid-weights : (points : List Float) → Filled (pointNumbers n) 136 points → Laid n (record { weights = weightsOf f n p; points = points })
-    laid-weights points a = record {
-      weights = filled-places (weightAt f n p) (n + n + 1) 17 (all-front (n + n + 1) (weightsOf f n p) (all-places (weightAt f n p) weight-finite (n + n + 1) (zeros 17) (all-zeros 17)));
+    laid-weights : n ≤ 8 → (points : List Float) → Filled (pointNumbers n) 136 points → Laid n (record { weights = weightsOf f n p; points = points })
+    laid-weights l points a = record {
+      weights = in-use-filled (placed-in-use (weights-placed f n p l) (all-front (n + n + 1) (weightsOf f n p) (all-places (weightAt f n p) weight-finite (n + n + 1) (zeros 17) (all-zeros 17))));
       points = a;
     }
 
-  draw-filled : (n : ℕ) (x p : List Float) (scale : Float) → Ran (drawPlan f n x p scale) (λ (v : List Float). Filled (pointNumbers n) 136 v)
-  draw-filled n x p scale =
-      ran-after _ _ _ (λ l e.
-      ran-after _ _ _ (λ s g.
-      ran-listed _ (pointNumbers n) _ _ (λ t.
-      ran-finish _ _ (filled-rows (pointAt f n x l s) n (n + n + 1) 136 t))))
-
-  predict-filled : (n : ℕ) (points : List Float) (w0m : Float) (w : List Float) (kinds : List Kind) (q : List Float) → Ran (predictPlan f n points w0m w kinds q) (λ (m : Moment). Filled n 8 (m .x) × Filled (n * n) 64 (m .p))
-  predict-filled n points w0m w kinds q =
-      ran-listed _ n _ _ (λ t.
-      ran-listed _ (n * n) _ _ (λ u.
-      ran-finish _ _ (filled-places _ n 8 t, filled-places _ (n * n) 64 u)))
-
-  correct-filled : (h : Head) → Ran (applyPlan f h) (λ (m : Moment). Filled (h .n) 8 (m .x) × Filled (h .n * h .n) 64 (m .p))
-  correct-filled h =
-      ran-after _ _ _ (λ zm e0.
-      ran-after _ _ _ (λ s e1.
-      ran-after _ _ _ (λ xm e2.
-      ran-after _ _ _ (λ c e3.
-      ran-after _ _ _ (λ l e4.
-      ran-after _ _ _ (λ v e5.
-      ran-after _ _ _ (λ k e6.
-      ran-after _ _ _ (λ y e7.
-      ran-listed _ (h .n) _ _ (λ t.
-      ran-listed _ (h .n * h .n) _ _ (λ u.
-      ran-finish _ _ (filled-places _ (h .n) 8 t, filled-places _ (h .n * h .n) 64 u)))))))))))
+moment-filled : {n : ℕ} {m : Moment} → MomentInUse n m → Filled n 8 (m .x) × Filled (n * n) 64 (m .p)
+moment-filled u = (in-use-filled (u .x-in-use), in-use-filled (u .p-in-use))
 
 -- ---- each call, once taken
 
@@ -135,8 +113,8 @@ module _ (f : Format) (s : Filter) (o : Sound f s) where
       → Ran (draws f to (seen s)) (λ (d : Done). FineDone f (s .n) d)
   drawn-fine to fine h =
       ran-mapped _ (opened to (s .n) (weightsOf f (s .n) (s .params))) (drawing f (seen s)) (λ points e.
-      let a = draw-filled f (s .n) (s .x) (s .p) (scaleOf f (s .n) (s .params)) points e in
-      record { change = fine _ (laid-weights f (s .n) (s .params) (o .passed h) points a); given = a .bounded })
+      let a = in-use-filled (draw-accepted f (s .n) (s .x) (s .p) (scaleOf f (s .n) (s .params)) points (o .small) e) in
+      record { change = fine _ (laid-weights f (s .n) (s .params) (o .passed h) (o .small) points a); given = a .bounded })
 
   open-weighted : isShut (s .stage) ≡ false → (points : List Float) → Filled (pointNumbers (s .n)) 136 points → Laid (s .n) (record { weights = seen s .«drawn_weights»; points = points })
   open-weighted h points a = rw h (record { weights = o .drawn-weights h; points = a })
@@ -146,7 +124,7 @@ module _ (f : Format) (s : Filter) (o : Sound f s) where
   unfolding allFinite
   corrected-fine t h e =
       ran-mapped _ (closed (seen s .«drawn_weights») (seen s .«drawn_points») true) (applyPlan f h) (λ q r.
-      let a : Filled (s .n) 8 (q .x) × Filled (s .n * s .n) 64 (q .p) = rw (← e) (correct-filled f h q r) in
+      let a : Filled (s .n) 8 (q .x) × Filled (s .n * s .n) 64 (q .p) = rw (← e) (moment-filled (apply-accepted f h q (rw e (o .small)) r)) in
       record { change = (a .0, a .1, open-weighted t (seen s .«drawn_points») (rw t (o .drawn-points t))); given = refl })
 
   pub fine : (c : Call) → Passed f (asks (seen s) c) → Ran (plan f (seen s) c) (λ (d : Done). FineDone f (s .n) d)
@@ -175,7 +153,7 @@ module _ (f : Format) (s : Filter) (o : Sound f s) where
   fine (closing (close-prediction v)) h =
       let points = front (pointNumbers (s .n)) v (zeros 136) in
       ran-mapped _ (closed (seen s .«drawn_weights») points false) (predicting f (seen s) v) (λ m e.
-      let a = predict-filled f (s .n) points (w0mOf f (s .n) (s .params)) (seen s .«drawn_weights») (s .kinds) (s .q) m e in
+      let a = moment-filled (predict-accepted f (s .n) points (w0mOf f (s .n) (s .params)) (seen s .«drawn_weights») (s .kinds) (s .q) m (o .small) e) in
       let b = filled-front (pointNumbers (s .n)) 136 v (leb-true _ _ (h .lent .0)) (points-room (s .n) (in-range 1 8 (s .n) (h .sizes .0) .1)) (h .inputs) in
       record { change = (a .0, a .1, open-weighted (predicting-open (s .stage) (h .fits)) points b); given = refl })
   fine (closing (close-correction m z r kinds observed)) h = corrected-fine (correcting-open (s .stage) (h .fits)) (weightedFrom f (seen s) m z r kinds observed) refl

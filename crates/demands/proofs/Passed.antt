@@ -1,16 +1,14 @@
 -- What a call that is taken has passed, and what its steps have made: the two ways to go by cases on an outcome. Assumes nothing.
-use Prim.Native.Nat.{ℕ}
 use mathlib.Core.Path.{_≡_, refl, sym, _∙_}
 use mathlib.Core.Bool.{Bool, true, false, not, _&&_, cond}
 use mathlib.Core.List.{List, [], _∷_}
 use borrow.Author.Tests.{not-true}
-use lib.ListN.{take}
-use lib.Ieee.{Float, Format}
-use Rattle.floats.specs.Refusal.{Refusal, SIZE, SHORT, STAGE, STALE, NUMBER, PARAM, RANGE, KIND, Outcome, refused, accepted, unless, onward}
+use lib.Ieee.{Format}
+use Rattle.floats.specs.Refusal.{Refusal, SIZE, SHORT, STAGE, STALE, NUMBER, PARAM, KIND, Outcome, refused, accepted, unless, onward}
 use Rattle.angles.specs.Kinds.{isPlain}
 use Rattle.floats.specs.Numbers.{allFinite}
 use Rattle.matrix.specs.Results
-use Rattle.matrix.specs.Results.{Work, worked, product, then, listed, Plan, finish, after, run, mapped}
+use Rattle.matrix.specs.Results.{Work, product, then, Plan, finish, after, run, mapped}
 use Rattle.floats.proofs.Refusals.{refused-never}
 use Rattle.matrix.proofs.Results.{whole, plan-accepted}
 use Rattle.matrix.proofs.Mapped.{run-mapped}
@@ -83,23 +81,6 @@ module _ {A : Type 0} (P : A → Type 0) where
   pub ran-finish : (a : A) → P a → Ran (finish a) P
   unfolding run
   ran-finish a h b e = let s : a ≡ b = cc in rw (← s) h
-
-  pub ran-after : {B : Type 0} (w : Work B) (κ : B → Plan A) → ((b : B) → worked w ≡ accepted b → Ran (κ b) P) → Ran (after w κ) P
-  unfolding run
-  ran-after {B} w κ h a = go (worked w) h
-    where
-      go : (o : Outcome B) → ((b : B) → o ≡ accepted b → Ran (κ b) P) → onward o (λ (b : B). run (κ b)) ≡ accepted a → P a
-      go (refused r) i e = absurd (refused-never e)
-      go (accepted b) i e = i b refl a e
-
-  -- a listed result is what it is, and finite where in use
-  pub ran-listed : (k : ℕ) (v : List Float) (κ : List Float → Plan A) → (allFinite (take k v) ≡ true → Ran (κ v) P) → Ran (after (listed k v) κ) P
-  unfolding run worked
-  ran-listed k v κ h a = go (allFinite (take k v)) refl
-    where
-      go : (t : Bool) → allFinite (take k v) ≡ t → onward (unless t RANGE (accepted v)) (λ (b : List Float). run (κ b)) ≡ accepted a → P a
-      go true s e = h s a e
-      go false s e = absurd (refused-never e)
 
   pub ran-either : (t : Bool) (p q : Plan A) → (t ≡ true → Ran p P) → (t ≡ false → Ran q P) → Ran (cond t p q) P
   ran-either true p q h k = h refl
