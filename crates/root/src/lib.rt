@@ -1,6 +1,7 @@
 // IEEE 754's squareRoot of an f64, to nearest, worked from the bits: sign, exponent and fraction.
 // The answer is a root, or refusal 5 for a NaN, an infinity and what is below zero.
 ghost use mathlib.Core.Path.{_≡_};
+ghost use mathlib.Core.Bool.{true};
 ghost use Prim.Native.Nat.{ℕ, _*_, _^_, _≤_, _<_};
 ghost use lib.Ieee.{binary64, ofBits};
 ghost use Rattle.root.specs.Definition.{rootOf, rootUnits, nearRoot};
@@ -14,7 +15,7 @@ pub enum Root {
 // The whole number nearest to the root of d * 2^52, a digit at a time from the top. The root is
 // between q and q + b, and y * b is twice what d * 2^52 has above q * q. No root of a whole number
 // lies at a half, so nothing is decided by ties.
-fn nearest_root(d: u64) -> u64
+fn root_digits(d: u64) -> u64
     requires { ⌜ d < 2 ^ 54 ⌝ }
     ensures { λ r. ⌜ r ≡ nearRoot 53 (d * 2 ^ 52) ⌝ }
 {
@@ -34,6 +35,83 @@ fn nearest_root(d: u64) -> u64
         i = i - 1;
     }
     if y > 2 * q { q + 1 } else { q }
+}
+
+// Whether q is the whole number nearest to the root of d * 2^52, with no root worked out. It is where (q - 1/2)^2 < d * 2^52 < (q + 1/2)^2,
+// which for whole numbers says that q * q + q is d * 2^52, or above it by less than 2 * q. The halves h and l of q keep the products within 64 bits.
+fn is_nearest_root(d: u64, q: u64) -> bool
+    requires { ⌜ d < 2 ^ 54 ⌝ }
+    ensures { λ r. ⌜ (r ≡ true → q ≡ nearRoot 53 (d * 2 ^ 52)) × (0 < d → q ≡ nearRoot 53 (d * 2 ^ 52) → r ≡ true) ⌝ }
+{
+    if q > 0x20_0000_0000_0000 {
+        return false;
+    }
+    let h = q / 0x400_0000;
+    let l = q % 0x400_0000;
+    // q * q + q is first * 2^52 and the last 26 digits of middle and of last
+    let last = l * (l + 1);
+    let middle = h * (2 * l + 1) + last / 0x400_0000;
+    let first = h * h + middle / 0x400_0000;
+    if first < d {
+        return false;
+    }
+    let above = first - d;
+    if above > 3 {
+        return false;
+    }
+    above * 0x10_0000_0000_0000 + middle % 0x400_0000 * 0x400_0000 + last % 0x400_0000 < 2 * q
+}
+
+// The product of the last 32 digits of a and of b.
+fn product(a: u64, b: u64) -> u64 {
+    (a % 0x1_0000_0000) * (b % 0x1_0000_0000)
+}
+
+// That product without its own last 31 digits.
+fn part(a: u64, b: u64) -> u64
+    ensures { λ r. ⌜ r < 2 ^ 33 ⌝ }
+{
+    product(a, b) / 0x8000_0000
+}
+
+// A guess at the whole number nearest to the root of d * 2^52, for a d of 53 or 54 digits. Nothing is promised of it: it is judged.
+// It takes products of 32 digits, no division and no float, so that a small processor is quick at it too.
+// With m = d / 2^54, s is to be the root of m in units of 2^-32, and r is to be 1 / s in units of 2^-31. A parabola in 1 - m gives r to 3 %.
+// Each step multiplies both by (3 - s * r) / 2, which brings s * r to 1 with twice the digits. What m has above s * s gives the last 21 digits.
+fn guessed_root(d: u64) -> u64
+    requires { ⌜ d < 2 ^ 54 ⌝ }
+{
+    // 1 - m in units of 2^-31
+    let t = 0x8000_0000 - d / 0x80_0000;
+    let mut r = 2_145_000_000 + part(t, 322_000_000 + part(t, 3_178_000_000));
+    let mut s = part(d / 0x40_0000, r);
+    let mut i: u64 = 0;
+    while i < 3 {
+        // 3 in units of 2^-30, less a little, so that s stays below the root
+        let v = 0xbfff_fffe - part(s, r) / 4;
+        s = part(s, v);
+        r = part(r, v);
+        i = i + 1;
+    }
+    let n = 1024 * d;
+    let square = product(s, s);
+    if n < square {
+        return 0;
+    }
+    // the last digits in units of 1/256: 128 of them round, and 2 make up for what was cut off
+    0x20_0000 * s + (part((n - square) / 16, r) + 130) / 256
+}
+
+// The whole number nearest to the root of d * 2^52: a guess that is judged to be it, or else digit by digit.
+fn nearest_root(d: u64) -> u64
+    requires { ⌜ d < 2 ^ 54 ⌝ }
+    ensures { λ r. ⌜ r ≡ nearRoot 53 (d * 2 ^ 52) ⌝ }
+{
+    let q = guessed_root(d);
+    if is_nearest_root(d, q) {
+        return q;
+    }
+    root_digits(d)
 }
 
 // The root of n units of 2^-1074 where n * 2^1022 = s * 2^a and s has all 53 digits: of s * 2^(a - 1022 - 1074).
@@ -80,11 +158,7 @@ pub fn square_root(x: f64) -> Root
     if b & 0x7fff_ffff_ffff_ffff == 0 {
         return Root::Value(x);
     }
-    // a sign before something: below zero
-    if b >> 63 == 1 {
-        return Root::Refused;
-    }
-    // the exponent of an infinity: no sign is left above it
+    // sign and exponent as one: an infinity has 0x7ff, what is below zero 0x800 or more
     if b >> 52 >= 0x7ff {
         return Root::Refused;
     }
