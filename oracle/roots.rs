@@ -1,5 +1,6 @@
 //! The proved root, linked in by oracle/roots, beside the machine's own and beside the proved root of an earlier commit.
-//! Prints how many roots differ and how often the guess was not the root, for each sort of number, and times. The status is 1 where anything differs.
+//! Prints how many roots differ and how often the guess was not the root, for each sort of number, and times.
+//! The status is 1 where a root differs, where something is refused or answered that should not be, and where more than 1 in 100 guesses fail.
 
 use std::hint::black_box;
 use std::process::exit;
@@ -21,6 +22,10 @@ const INFINITY: u64 = 0x7ff << 52;
 struct Disorder(u64);
 
 impl Disorder {
+    fn new() -> Self {
+        Self(0x9e37_79b9_7f4a_7c15)
+    }
+
     fn next(&mut self) -> u64 {
         self.0 ^= self.0 << 13;
         self.0 ^= self.0 >> 7;
@@ -29,49 +34,59 @@ impl Disorder {
     }
 
     fn below(&mut self, n: u64) -> u64 {
-        (self.next() >> 8) % n
+        (u128::from(self.next()) * u128::from(n) >> 64) as u64
     }
 }
 
-/// A q of 53 digits whose q * q + q is r, up to a multiple of 2^52, for an even r: 2 q + 1 is odd, so each step doubles the digits that are right.
-fn beside_half(r: u64, odd: u64) -> u64 {
-    let mut q = odd;
-    for _ in 0..6 {
-        let slope = 2u64.wrapping_mul(q).wrapping_add(1);
-        // the inverse of an odd number, by the same steps
+/// The q, odd or even as wanted, with q * q + q = r up to a multiple of 2^64, for an even r: 2 q + 1 is odd, so each step doubles the digits that are right.
+fn solved(r: u64, odd: u64) -> u64 {
+    (0..6).fold(odd, |q, _| {
+        let slope = q.wrapping_mul(2).wrapping_add(1);
+        // 1 / slope, by the same steps
         let inverse = (0..6).fold(slope, |i, _| i.wrapping_mul(2u64.wrapping_sub(slope.wrapping_mul(i))));
         let off = q.wrapping_mul(q).wrapping_add(q).wrapping_sub(r);
-        q = q.wrapping_sub(off.wrapping_mul(inverse));
-    }
-    q & FRACTION | HIDDEN
+        q.wrapping_sub(off.wrapping_mul(inverse))
+    })
 }
 
-/// The k-th number of a sort, as bits.
-fn number(sort: usize, k: u64, some: &mut Disorder) -> u64 {
-    match sort {
-        // any positive number: each exponent as often as another
-        0 => some.below(0x7ff) << 52 | some.next() & FRACTION,
+/// The d with d * 2^52 = q * q + q - r, as 53 digits and whether they are doubled; a d of 54 digits that is odd is no double's.
+fn beside_half(q: u64, r: i64) -> Option<(u64, bool)> {
+    let d = (i128::from(q) * i128::from(q) + i128::from(q) - i128::from(r) >> 52) as u64;
+    match d {
+        0x10_0000_0000_0000..=0x1f_ffff_ffff_ffff => Some((d, false)),
+        0x20_0000_0000_0000..=0x3f_ffff_ffff_ffff if d % 2 == 0 => Some((d / 2, true)),
+        _ => None,
+    }
+}
+
+/// The k-th number of a sort, as bits; there is none for some k.
+fn number(sort: usize, k: u64, some: &mut Disorder) -> Option<u64> {
+    Some(match sort {
+        // above zero, each exponent as often as another
+        0 => (some.below(0x7ff) << 52 | some.next() & FRACTION).max(1),
         // subnormal, each number of digits as often as another
         1 => (some.next() & FRACTION | HIDDEN) >> (1 + some.below(52)),
-        // squares of numbers of up to 26 digits, times any power of 4, and the numbers beside them
+        // squares of up to 53 digits times a power of 4, and the numbers beside them
         2 => {
-            let root = 1 + some.below((1 << 26) - 1) as u64;
-            let x = (root * root) as f64 * f64::from_bits((1023 + 2 * some.below(450) - 450) << 52);
-            (x.to_bits() + k % 3).saturating_sub(1)
+            let root = 1 + some.below(94_906_265);
+            let power = f64::from_bits((3 + 2 * some.below(984)) << 52);
+            ((root * root) as f64 * power).to_bits() + k % 3 - 1
         }
-        // powers of two, and the numbers up to 1000 places from them
-        3 => ((1 + some.below(0x7fd)) << 52) + some.below(2001) - 1000,
-        // roots beside the middle between two numbers: d * 2^52 is q * q + q - r for an r as near to 0 as k allows
+        // powers of two, subnormal ones too, and the numbers up to 1000 places from them
+        3 => {
+            let power = some.below(51 + 0x7ff);
+            let bits = if power < 51 { 2 << power } else { (power - 50) << 52 };
+            (bits + some.below(2001)).saturating_sub(1000).clamp(1, INFINITY - 1)
+        }
+        // roots beside the middle between two doubles, q + 1/2: d * 2^52 is q * q + q - r, for the even r nearest to 0
         4 => {
-            let r = (k / 4).wrapping_mul(2).wrapping_mul(if k & 2 == 0 { 1 } else { u64::MAX });
-            let q = beside_half(r, k & 1);
-            let d = ((u128::from(q) * u128::from(q) + u128::from(q)).wrapping_sub(r as i64 as i128 as u128) >> 52) as u64;
-            // a d of 54 digits is twice a number of 53: where it is odd the root is beside no half
-            let even = 2 * some.below(1000);
-            if d < 2 * HIDDEN { (even + 1) << 52 | d & FRACTION } else { (even + 2) << 52 | d >> 1 & FRACTION }
+            let r = (k / 4) as i64 * if k & 2 == 0 { 2 } else { -2 };
+            let q = solved(r as u64, k & 1);
+            let (s, doubled) = beside_half(q % HIDDEN + HIDDEN, r)?;
+            (2 * some.below(1022) + if doubled { 2 } else { 1 }) << 52 | s & FRACTION
         }
         _ => unreachable!(),
-    }
+    })
 }
 
 const SORTS: [&str; 5] = ["any exponent", "subnormal", "squares and beside them", "beside powers of two", "beside halves"];
@@ -88,44 +103,48 @@ fn digits(b: u64) -> u64 {
     s << (a & 1)
 }
 
+/// The machine's root, called as the proved one is.
+#[inline(never)]
+extern "C" fn root_own(x: f64) -> f64 {
+    x.sqrt()
+}
+
 fn main() {
     let count: u64 = std::env::args().nth(1).expect("a count").parse().expect("a count");
-    let mut differs = 0u64;
+    let mut wrong = 0u64;
     for (sort, name) in SORTS.iter().enumerate() {
-        let mut some = Disorder(0x9e37_79b9_7f4a_7c15);
-        let (mut off, mut moved, mut looped) = (0u64, 0u64, 0u64);
-        for k in 0..count {
-            let b = number(sort, k, &mut some);
+        let mut some = Disorder::new();
+        let (mut done, mut off, mut moved, mut looped) = (0u64, 0u64, 0u64, 0u64);
+        for b in (0..).filter_map(|k| number(sort, k, &mut some)).take(count as usize) {
             assert!(0 < b && b < INFINITY, "a number above zero");
             let x = f64::from_bits(b);
-            let (own, now, before) = unsafe { (x.sqrt(), root_now(x), root_before(x)) };
+            let (own, now, before) = unsafe { (root_own(x), root_now(x), root_before(x)) };
+            done += 1;
             off += u64::from(now.to_bits() != own.to_bits());
             moved += u64::from(now.to_bits() != before.to_bits());
             looped += u64::from(!unsafe { guess_holds(digits(b)) });
         }
-        println!("{name}: {count} numbers, {off} roots differ from the machine's, {moved} from before, the loop was needed for {looped}");
-        differs += off + moved;
+        println!("{name}: {done} numbers, {off} roots differ from the machine's, {moved} from before, the loop was needed for {looped}");
+        wrong += off + moved + u64::from(sort == 0 && looped > count / 100);
     }
 
-    // what is refused, and the zeros
-    let mut some = Disorder(0x9e37_79b9_7f4a_7c15);
-    let mut kept = 0u64;
+    let mut some = Disorder::new();
+    let (mut done, mut kept) = (0u64, 0u64);
     for k in 0..count {
         let b = match k % 3 {
             0 => 1 << 63 | 1 + some.below(INFINITY - 1),
             1 => some.next() | INFINITY,
             _ => some.below(2) << 63 | INFINITY,
         };
+        done += 1;
         kept += u64::from(unsafe { root_now(f64::from_bits(b)) } != -1.0);
     }
-    for zero in [0.0f64, -0.0] {
-        kept += u64::from(unsafe { root_now(zero) }.to_bits() != zero.to_bits());
-    }
-    println!("below zero, NaN, infinity: {count} numbers, {kept} not refused; both zeros are their own roots");
-    differs += kept;
+    let own_roots = [0.0f64, -0.0].iter().all(|zero| unsafe { root_now(*zero) }.to_bits() == zero.to_bits());
+    println!("below zero, NaN, infinity: {done} numbers, {kept} not refused; each zero is its own root: {own_roots}");
+    wrong += kept + u64::from(!own_roots);
 
     times();
-    exit(i32::from(differs != 0));
+    exit(i32::from(wrong != 0));
 }
 
 /// The least time of seven runs of f, in ns, over so many rounds.
@@ -139,30 +158,28 @@ fn best(rounds: usize, mut f: impl FnMut()) -> f64 {
         .fold(f64::INFINITY, f64::min)
 }
 
-/// A root of every number, and a root of every number with the last root added to it, which waits for that one.
-fn pace(numbers: &[f64], root: impl Fn(f64) -> f64) -> (f64, f64) {
+/// A root of every number; and a root of every number with the last root added to it, which waits for that one.
+fn pace(numbers: &[f64], root: unsafe extern "C" fn(f64) -> f64) -> (f64, f64) {
     let rounds = 8 * numbers.len();
     let independent = best(rounds, || {
         let mut all = 0;
-        (0..8).for_each(|_| numbers.iter().for_each(|x| all ^= root(*x).to_bits()));
+        (0..8).for_each(|_| numbers.iter().for_each(|x| all ^= unsafe { root(*x) }.to_bits()));
         black_box(all);
     });
     let chained = best(rounds, || {
         let mut last = 1.0;
-        (0..8).for_each(|_| numbers.iter().for_each(|x| last = root(*x + last)));
+        (0..8).for_each(|_| numbers.iter().for_each(|x| last = unsafe { root(*x + last) }));
         black_box(last);
     });
     (independent, chained)
 }
 
 fn times() {
-    let mut some = Disorder(0x9e37_79b9_7f4a_7c15);
+    let mut some = Disorder::new();
     let numbers: Vec<f64> = (0..1 << 16).map(|_| f64::from_bits((960 + some.below(128)) << 52 | some.next() & FRACTION)).collect();
-    let before = pace(&numbers, |x| unsafe { root_before(x) });
-    let now = pace(&numbers, |x| unsafe { root_now(x) });
-    let own = pace(&numbers, f64::sqrt);
-    for (name, a, b, c) in [("independent", before.0, now.0, own.0), ("chained", before.1, now.1, own.1)] {
-        println!("{name} roots, ns each: before {a:.1}, now {b:.1}, the machine's {c:.1}; before to now {:.1}, now to the machine's {:.1}", a / b, b / c);
+    let (before, now, own) = (pace(&numbers, root_before), pace(&numbers, root_now), pace(&numbers, root_own));
+    for (name, before, now, own) in [("independent", before.0, now.0, own.0), ("chained", before.1, now.1, own.1)] {
+        println!("{name} roots, ns each: before {before:.1}, now {now:.1}, the machine's {own:.1}; before to now {:.1}, now to the machine's {:.1}", before / now, now / own);
     }
 
     // covariances A * transposed A + 1, with A in a fixed disorder
@@ -184,6 +201,6 @@ fn times() {
             black_box(out);
         })
     };
-    let (a, b) = (openings(opened_before), openings(opened_now));
-    println!("New and one opening at 8 states, ns: before {a:.0}, now {b:.0}; before to now {:.2}", a / b);
+    let (before, now) = (openings(opened_before), openings(opened_now));
+    println!("New and one opening at 8 states, ns: before {before:.0}, now {now:.0}; before to now {:.2}", before / now);
 }

@@ -9,7 +9,7 @@ use borrow.Author.Tests.{lt-ltb, le-ltb}
 use Rattle.root.specs.Definition.{floorRoot, nearRoot}
 use Rattle.root.proofs.Squares.{Floor, floor-is, near-at}
 
--- the root of n lies between q - 1 / 2 and q + 1 / 2: q * q + q is n, or above it by less than 2 * q
+-- the root of n lies between q - 1 / 2 and q + 1 / 2: q * q + q is not below n, and above it by less than 2 * q (which no q is for n = 0)
 abbrev pub Near : ℕ → ℕ → Type 0
 Near n q = (n ≤ q * q + q) × (q * q + q < n + 2 * q)
 

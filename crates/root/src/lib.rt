@@ -37,8 +37,8 @@ fn root_digits(d: u64) -> u64
     if y > 2 * q { q + 1 } else { q }
 }
 
-// Whether q is the whole number nearest to the root of d * 2^52, with no root worked out. It is where (q - 1/2)^2 < d * 2^52 < (q + 1/2)^2,
-// which for whole numbers says that q * q + q is d * 2^52, or above it by less than 2 * q. The halves h and l of q keep the products within 64 bits.
+// Whether q is the whole number nearest to the root of N = d * 2^52, with no root worked out: whether (q - 1/2)^2 < N < (q + 1/2)^2,
+// that is, whether q * q + q is not below N and above it by less than 2 * q. (To N = 0 the answer is no.) The halves h and l of q keep the products within 64 bits.
 fn is_nearest_root(d: u64, q: u64) -> bool
     requires { ⌜ d < 2 ^ 54 ⌝ }
     ensures { λ r. ⌜ (r ≡ true → q ≡ nearRoot 53 (d * 2 ^ 52)) × (0 < d → q ≡ nearRoot 53 (d * 2 ^ 52) → r ≡ true) ⌝ }
@@ -67,39 +67,41 @@ fn product(a: u64, b: u64) -> u64 {
     (a % 0x1_0000_0000) * (b % 0x1_0000_0000)
 }
 
-// That product without its own last 31 digits.
-fn part(a: u64, b: u64) -> u64
+// That product divided by 2^31.
+fn high_part(a: u64, b: u64) -> u64
     ensures { λ r. ⌜ r < 2 ^ 33 ⌝ }
 {
     product(a, b) / 0x8000_0000
 }
 
 // A guess at the whole number nearest to the root of d * 2^52, for a d of 53 or 54 digits. Nothing is promised of it: it is judged.
-// It takes products of 32 digits, no division and no float, so that a small processor is quick at it too.
+// It multiplies numbers of 32 digits and divides by powers of two alone, so that a small processor is quick at it too.
 // With m = d / 2^54, s is to be the root of m in units of 2^-32, and r is to be 1 / s in units of 2^-31. A parabola in 1 - m gives r to 3 %.
-// Each step multiplies both by (3 - s * r) / 2, which brings s * r to 1 with twice the digits. What m has above s * s gives the last 21 digits.
+// Each step multiplies both by (3 - s * r) / 2, which brings s * r to 1 with twice the digits. Then s is short by less than 8 units, and
+// what m has above s * s gives the rest: a 16th of that still has no more than 32 digits.
 fn guessed_root(d: u64) -> u64
     requires { ⌜ d < 2 ^ 54 ⌝ }
 {
     // 1 - m in units of 2^-31
     let t = 0x8000_0000 - d / 0x80_0000;
-    let mut r = 2_145_000_000 + part(t, 322_000_000 + part(t, 3_178_000_000));
-    let mut s = part(d / 0x40_0000, r);
+    let mut r = 2_145_000_000 + high_part(t, 322_000_000 + high_part(t, 3_178_000_000));
+    let mut s = high_part(d / 0x40_0000, r);
     let mut i: u64 = 0;
     while i < 3 {
         // 3 in units of 2^-30, less a little, so that s stays below the root
-        let v = 0xbfff_fffe - part(s, r) / 4;
-        s = part(s, v);
-        r = part(r, v);
+        let v = 0xbfff_fffe - high_part(s, r) / 4;
+        s = high_part(s, v);
+        r = high_part(r, v);
         i = i + 1;
     }
     let n = 1024 * d;
     let square = product(s, s);
+    // never so for such a d, but what is taken away must not be the larger
     if n < square {
         return 0;
     }
-    // the last digits in units of 1/256: 128 of them round, and 2 make up for what was cut off
-    0x20_0000 * s + (part((n - square) / 16, r) + 130) / 256
+    // the rest in units of 1/256: 128 of them round, and 2 make up for some of what was cut off
+    0x20_0000 * s + (high_part((n - square) / 16, r) + 130) / 256
 }
 
 // The whole number nearest to the root of d * 2^52: a guess that is judged to be it, or else digit by digit.

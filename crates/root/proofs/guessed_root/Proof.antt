@@ -5,7 +5,7 @@ use native.Mathlib.Omega.{arith}
 use Rattle.root.proofs.guessed_root.Statement.{statement}
 use Rattle.root.proofs.guessed_root.Tie as tie
 
--- s is what `part` gives
+-- s is what `high_part` gives
 abbrev Inv-loop : tie.InvT-loop
 Inv-loop d t r₀ s₀ i₀ r s i = s < 2 ^ 33
 
