@@ -38,7 +38,8 @@ fn root_digits(d: u64) -> u64
 }
 
 // Whether q is the whole number nearest to the root of N = d * 2^52, with no root worked out: whether (q - 1/2)^2 < N < (q + 1/2)^2,
-// that is, whether q * q + q is not below N and above it by less than 2 * q. (To N = 0 the answer is no.) The halves h and l of q keep the products within 64 bits.
+// that is, whether q * q + q is not below N, and above it by less than 2 * q. The halves h and l of q keep the products within 64 bits.
+// For d = 0 the answer is no.
 fn is_nearest_root(d: u64, q: u64) -> bool
     requires { ⌜ d < 2 ^ 54 ⌝ }
     ensures { λ r. ⌜ (r ≡ true → q ≡ nearRoot 53 (d * 2 ^ 52)) × (0 < d → q ≡ nearRoot 53 (d * 2 ^ 52) → r ≡ true) ⌝ }
@@ -56,10 +57,15 @@ fn is_nearest_root(d: u64, q: u64) -> bool
         return false;
     }
     let above = first - d;
+    // 2 * q is no more than 4 * 2^52
     if above > 3 {
         return false;
     }
-    above * 0x10_0000_0000_0000 + middle % 0x400_0000 * 0x400_0000 + last % 0x400_0000 < 2 * q
+    let rest = above * 0x10_0000_0000_0000 + middle % 0x400_0000 * 0x400_0000 + last % 0x400_0000;
+    if rest >= 2 * q {
+        return false;
+    }
+    true
 }
 
 // The product of the last 32 digits of a and of b.
@@ -77,8 +83,8 @@ fn high_part(a: u64, b: u64) -> u64
 // A guess at the whole number nearest to the root of d * 2^52, for a d of 53 or 54 digits. Nothing is promised of it: it is judged.
 // It multiplies numbers of 32 digits and divides by powers of two alone, so that a small processor is quick at it too.
 // With m = d / 2^54, s is to be the root of m in units of 2^-32, and r is to be 1 / s in units of 2^-31. A parabola in 1 - m gives r to 3 %.
-// Each step multiplies both by (3 - s * r) / 2, which brings s * r to 1 with twice the digits. Then s is short by less than 8 units, and
-// what m has above s * s gives the rest: a 16th of that still has no more than 32 digits.
+// Each step multiplies both by (3 - s * r) / 2, which brings s * r to 1 with twice the digits. Then s is short by less than 8 units (tried, not
+// proved), and what m has above s * s gives the rest: a 16th of that still has no more than 32 digits.
 fn guessed_root(d: u64) -> u64
     requires { ⌜ d < 2 ^ 54 ⌝ }
 {
@@ -96,7 +102,7 @@ fn guessed_root(d: u64) -> u64
     }
     let n = 1024 * d;
     let square = product(s, s);
-    // never so for such a d, but what is taken away must not be the larger
+    // not met for such a d, but what is taken away must not be the larger
     if n < square {
         return 0;
     }

@@ -1,11 +1,10 @@
 -- `root::is_nearest_root` meets its contract: what it compares is q * q + q with d * 2 ^ 52, by the laws of `Judged`. Assumes nothing.
 use borrow.Author.Needs.{needs}
-use borrow.Author.Tests.{lt-ltb, ltb-true}
-use mathlib.Core.Path.{_≡_}
-use mathlib.Core.Bool.{Bool, true, false, false≢true}
+use mathlib.Core.Path.{_≡_, refl}
+use mathlib.Core.Bool.{true, false, false≢true}
 use Prim.Native.Nat.{ℕ, _+_, _*_, _/_, _%_, _^_, _<_}
 use native.Mathlib.Omega.{arith}
-use lib.Dec.{lit<, ltb}
+use lib.Dec.{lit<}
 use Rattle.root.specs.Definition.{nearRoot}
 use Rattle.root.proofs.Squares.{near-range}
 use Rattle.root.proofs.Judged.{Near, near-told, near-only, Halves, halves}
@@ -15,20 +14,9 @@ use Rattle.root.proofs.is_nearest_root.Tie as tie
 parts : (c : tie.Else1) → Halves (c .before .args .q) (c .before .args .q / 2 ^ 26) (c .before .args .q % 2 ^ 26)
 parts c = halves (c .before .args .q) (omega arith)
 
--- the contract, for the answer b
-abbrev Tells : ℕ → ℕ → Bool → Type 0
-Tells d q b = (b ≡ true → q ≡ nearRoot 53 (d * 2 ^ 52)) × (0 < d → q ≡ nearRoot 53 (d * 2 ^ 52) → b ≡ true)
-
--- it is false where q is not near
-denied : (d q : ℕ) → d < 2 ^ 54 → (Near (d * 2 ^ 52) q → ⊥) → Tells d q false
+-- what is answered where q is not near
+denied : (d q : ℕ) → d < 2 ^ 54 → (Near (d * 2 ^ 52) q → ⊥) → (false ≡ true → q ≡ nearRoot 53 (d * 2 ^ 52)) × (0 < d → q ≡ nearRoot 53 (d * 2 ^ 52) → false ≡ true)
 denied d q h k = ((λ e. absurd (false≢true e)), (λ p e. absurd (k (near-told 53 (d * 2 ^ 52) q (omega arith) (omega arith) e))))
-
--- and otherwise whether v is below 2 * q, where q * q + q is above d * 2 ^ 52 by v
-decided : (d q v : ℕ) → d < 2 ^ 54 → v + d * 2 ^ 52 ≡ q * q + q → Tells d q (ltb v (2 * q))
-decided d q v h k = (
-  (λ e. let t = ltb-true v (2 * q) e in near-only 53 (d * 2 ^ 52) q (omega arith) (omega arith, omega arith)),
-  (λ p e. let n = near-told 53 (d * 2 ^ 52) q (omega arith) (omega arith) e in lt-ltb v (2 * q) (omega arith)),
-)
 
 -- the root is at most 2 ^ 53
 returns : tie.Need-returns
@@ -53,12 +41,19 @@ returns-3 c =
 
 returns-4 : tie.Need-returns-4
 returns-4 c =
-    let m = parts (c .before .before) in
-    decided (c .before .before .before .args .d) (c .before .before .before .args .q) _ (search needs) (omega arith)
+    let m = parts (c .before .before .before) in
+    denied (c .before .before .before .before .args .d) (c .before .before .before .before .args .q) (search needs) (λ n. omega arith)
+
+returns-5 : tie.Need-returns-5
+returns-5 c =
+    let d = c .before .before .before .before .args .d in
+    let q = c .before .before .before .before .args .q in
+    let m = parts (c .before .before .before) in
+    ((λ e. near-only 53 (d * 2 ^ 52) q (omega arith) (omega arith, omega arith)), (λ p e. refl))
 
 pub is-nearest-root-spec : {M : Type 1} → statement M
 is-nearest-root-spec =
     tie.close (tie.spec
     returns (λ c. omega arith) (λ c. let m = parts c in omega arith) (λ c. omega arith) (λ c. omega arith) (λ c. let m = parts c in omega arith)
     (λ c. let m = parts c in omega arith) (λ c. let m = parts c in omega arith) (λ c. let m = parts c in omega arith)
-    returns-2 returns-3 (λ c. omega arith) (λ c. omega arith) (λ c. omega arith) (λ c. omega arith) (λ c. omega arith) returns-4)
+    returns-2 returns-3 (λ c. omega arith) (λ c. omega arith) (λ c. omega arith) (λ c. omega arith) (λ c. omega arith) returns-4 returns-5)
