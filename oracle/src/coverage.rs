@@ -1,7 +1,7 @@
 //! What scripts should meet: every number that a call can give, every stage and step that can stop it, every size.
 
 use crate::filter::Open;
-use crate::script::Table;
+use crate::script::{Table, IN_USE, STALE};
 
 /// The numbers that each call can give in a script. (Opening never gives 6; on the empty filter abandon and closes give 3.)
 pub const NUMBERS: [(&str, &[u8]); 22] = [
@@ -54,6 +54,9 @@ const CORRECTION: [(u8, &str); 13] = [
     (9, "P"),
 ];
 
+/// The setters, each accepted on stale points and on points in use (which it marks stale, but for one of Q).
+pub const SETTERS: [&str; 5] = ["setx", "setp", "setq", "setpar", "setkind"];
+
 /// The closes of a correction, each met with every n and m.
 pub const CORRECTIONS: [(&str, &str); 2] = [("closec", "correction"), ("closef", "flat correction")];
 
@@ -76,6 +79,10 @@ pub fn holes(table: &Table) -> Vec<String> {
     for (call, steps) in STEPS {
         let unmet = steps.iter().filter(|(number, step)| count_with(table, call, *number, step) == 0);
         holes.extend(unmet.map(|(number, step)| format!("{call}: {number} in {step}")));
+    }
+    for call in SETTERS {
+        let unmet = [STALE, IN_USE].into_iter().filter(|points| count_with(table, call, 0, points) == 0);
+        holes.extend(unmet.map(|points| format!("{call} accepted, points {points}")));
     }
     for n in 1..=8 {
         if count_with(table, "closep", 0, &format!("n={n}")) == 0 {

@@ -139,10 +139,19 @@ impl Filter {
         self.sized()
     }
 
+    /// Request A3: an accepted setting marks stale, but for one of Q. The setters of the published Rust don't.
+    fn mark(&mut self) {
+        if !self.stale {
+            self.rust_mut().mark_stale();
+        }
+        self.stale = true;
+    }
+
     pub fn set_x(&mut self, x: &[f64]) -> Result<(), Trouble> {
         let n = self.settable()?;
         self.x = front(x, n)?;
         self.rust_mut().set_x(x);
+        self.mark();
         Ok(())
     }
 
@@ -150,6 +159,7 @@ impl Filter {
         let n = self.settable()?;
         self.p = front(p, n * n)?;
         self.rust_mut().set_p(p);
+        self.mark();
         Ok(())
     }
 
@@ -166,6 +176,7 @@ impl Filter {
         refuse_if(!Weights::of(n, par).pass(), 6)?;
         self.par = par;
         self.rust_mut().set_params(par);
+        self.mark();
         Ok(())
     }
 
@@ -176,6 +187,7 @@ impl Filter {
         self.kinds[i as usize] = kind;
         let kinds = self.kinds.clone();
         self.rust_mut().set_kinds(&kinds);
+        self.mark();
         Ok(())
     }
 

@@ -10,11 +10,15 @@ use crate::steps::Params;
 pub const LINE: usize = 16_384;
 pub const LIST: u64 = 512;
 
-/// How often each call gave each number, and with it the stage or step that refused or, of an accepted close, the sizes.
+/// How often each call gave each number, and with it the stage or step that refused or, of an accepted close, the sizes, of an accepted setting, the points before it.
 pub type Table = BTreeMap<(&'static str, u8, String), u64>;
 
 /// What a `bad` line counts as.
 pub const BAD: u8 = 99;
+
+/// Points before an accepted setting.
+pub const STALE: &str = "stale";
+pub const IN_USE: &str = "in use";
 
 /// A reader of scripts: the one current filter, and the table of what was met.
 pub struct Reader {
@@ -71,11 +75,11 @@ impl Reader {
                 *filter = new;
                 bare("new", outcome)
             }
-            Call::SetX(x) => bare("setx", filter.set_x(&x)),
-            Call::SetP(p) => bare("setp", filter.set_p(&p)),
-            Call::SetQ(q) => bare("setq", filter.set_q(&q)),
-            Call::SetPar(par) => bare("setpar", filter.set_params(par)),
-            Call::SetKind(i, kind) => bare("setkind", filter.set_kind(i, kind)),
+            Call::SetX(x) => set("setx", filter, |filter| filter.set_x(&x)),
+            Call::SetP(p) => set("setp", filter, |filter| filter.set_p(&p)),
+            Call::SetQ(q) => set("setq", filter, |filter| filter.set_q(&q)),
+            Call::SetPar(par) => set("setpar", filter, |filter| filter.set_params(par)),
+            Call::SetKind(i, kind) => set("setkind", filter, |filter| filter.set_kind(i, kind)),
             Call::Abandon => bare("abandon", filter.abandon()),
             Call::Lent(which, length) => {
                 let mut buffer: Vec<f64> = (0..length).map(|i| f64::from_bits(0x4330_0000_0000_0000 + i)).collect();
@@ -125,6 +129,14 @@ impl Reader {
 /// An answer of a number alone.
 fn bare(call: &'static str, outcome: Result<(), Trouble>) -> Result<Told, String> {
     told(call, outcome, |number, _| number.to_string())
+}
+
+/// An answer to a setting; where it is accepted the table tells on what points.
+fn set(call: &'static str, filter: &mut Filter, setting: impl FnOnce(&mut Filter) -> Result<(), Trouble>) -> Result<Told, String> {
+    let before = if filter.stale { STALE } else { IN_USE };
+    let told = bare(call, setting(filter))?;
+    let more = if told.number == 0 { before.into() } else { told.more };
+    Ok(Told { more, ..told })
 }
 
 fn told<A>(call: &'static str, outcome: Result<A, Trouble>, text: impl FnOnce(u8, Option<A>) -> String) -> Result<Told, String> {

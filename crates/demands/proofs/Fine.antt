@@ -27,33 +27,30 @@ use Rattle.correction.proofs.Accepted.{apply-accepted}
 use Rattle.filter.specs.declared.Filter.{Filter}
 use Rattle.filter.specs.declared.Weighted.{Weighted}
 use Rattle.filter.specs.Asked.{fit, by-params, by-kind, inRange, every}
-use Rattle.filter.specs.Filters.{isShut, seen, Setting, x-set, p-set, q-set, params-set, kinds-set, opened-prediction, opened-correction, Closing, Change, sets, closes, abandons, reads}
+use Rattle.filter.specs.Filters.{isShut, seen, Setting, x-set, p-set, q-set, params-set, kinds-set, opened-prediction, opened-correction, Closing, Change, sets, closes, abandons, reads, close}
 use Rattle.filter.specs.Calls.{set-x, set-p, set-q, set-params, set-kind, open-prediction, open-correction, close-prediction, close-correction, close-correction-flat, read-x, read-p, read-q, read-points, read-params, read-stale, Call, setting, closing, abandon, reading, inKinds, asKinds, asks, Done, opened, closed, draws, plan, weightedFrom, flatFrom}
 use Rattle.filter.proofs.Closing.{predicting-open, correcting-open, predicting}
-use Rattle.demands.specs.Sound.{Filled, Sound}
+use Rattle.demands.specs.Sound.{Filled, Laid, Predicted, Sound}
+use Rattle.demands.proofs.Rows.{two-ways}
 use Rattle.demands.proofs.Passed.{both, Passed, Ran, ran-finish, ran-either, ran-mapped}
 use Rattle.demands.proofs.Listed.{drawing}
 use Rattle.demands.proofs.Arrays.{all-front, all-places, in-use-filled, filled-front, kinds-finite, kinds-fit}
 
 -- ---- what a change installs is right for the filter
 
--- weights and points: 2n+1 finite weights, and as many finite points
-pub record Laid (n : ℕ) (w : Weighted) : Type 0 where
-  pub weights : Filled (n + n + 1) 17 (w .weights)
-  pub points : Filled (pointNumbers n) 136 (w .points)
-
-module _ (f : Format) (n : ℕ) where
+module _ (f : Format) (s : Filter) where
   abbrev pub FineSetting : Setting → Type 0
-  FineSetting (x-set v) = Filled n 8 v
-  FineSetting (p-set v) = Filled (n * n) 64 v
-  FineSetting (q-set v) = Filled (n * n) 64 v
-  FineSetting (params-set v) = (allFinite (v .alpha ∷ v .beta ∷ v .kappa ∷ []) ≡ true) × (weightsPass f n v ≡ true)
-  FineSetting (kinds-set v) = (allFinite (inKinds v) ≡ true) × (every (fit f) (asKinds v) ≡ true) × (length v ≡ 8) × ((i : ℕ) → n ≤ i → getD v i plain ≡ plain)
-  FineSetting (opened-prediction d) = Laid n d
-  FineSetting (opened-correction d) = Laid n d
+  FineSetting (x-set v) = Filled (s .n) 8 v
+  FineSetting (p-set v) = Filled (s .n * s .n) 64 v
+  FineSetting (q-set v) = Filled (s .n * s .n) 64 v
+  -- with nothing open, since drawn weights are those of the parameters
+  FineSetting (params-set v) = (allFinite (v .alpha ∷ v .beta ∷ v .kappa ∷ []) ≡ true) × (weightsPass f (s .n) v ≡ true) × (isShut (s .stage) ≡ true)
+  FineSetting (kinds-set v) = (allFinite (inKinds v) ≡ true) × (every (fit f) (asKinds v) ≡ true) × (length v ≡ 8) × ((i : ℕ) → s .n ≤ i → getD v i plain ≡ plain)
+  FineSetting (opened-prediction d) = Laid f (s .n) (s .params) d
+  FineSetting (opened-correction d) = Laid f (s .n) (s .params) d
 
   abbrev pub FineClosing : Closing → Type 0
-  FineClosing c = Filled n 8 (c .x) × Filled (n * n) 64 (c .p) × Laid n (c .installed)
+  FineClosing c = Filled (s .n) 8 (c .x) × Filled (s .n * s .n) 64 (c .p) × Laid f (s .n) (s .params) (c .installed) × (c .stale ≡ false → Predicted f (close s c))
 
   abbrev pub Fine : Change → Type 0
   Fine (sets c) = FineSetting c
@@ -96,8 +93,9 @@ module _ (f : Format) where
         go true = weights-bounded .0
         go false = weights-bounded .1
 
-    laid-weights : n ≤ 8 → (points : List Float) → Filled (pointNumbers n) 136 points → Laid n (record { weights = weightsOf f n p; points = points })
+    laid-weights : n ≤ 8 → (points : List Float) → Filled (pointNumbers n) 136 points → Laid f n p (record { weights = weightsOf f n p; points = points })
     laid-weights l points a = record {
+      weights-of = refl;
       weights = in-use-filled (placed-in-use (weights-placed f n p l) (all-front (n + n + 1) (weightsOf f n p) (all-places (weightAt f n p) weight-finite (n + n + 1) (zeros 17) (all-zeros 17))));
       points = a;
     }
@@ -109,25 +107,25 @@ moment-filled u = (in-use-filled (u .x-in-use), in-use-filled (u .p-in-use))
 
 module _ (f : Format) (s : Filter) (o : Sound f s) where
   -- with nothing open the weights and points drawn, or the current ones, are laid out
-  drawn-fine : (to : Weighted → Setting) → ((w : Weighted) → Laid (s .n) w → FineSetting f (s .n) (to w)) → 1 ≤ s .n
-      → Ran (draws f to (seen s)) (λ (d : Done). FineDone f (s .n) d)
+  drawn-fine : (to : Weighted → Setting) → ((w : Weighted) → Laid f (s .n) (s .params) w → FineSetting f s (to w)) → 1 ≤ s .n
+      → Ran (draws f to (seen s)) (λ (d : Done). FineDone f s d)
   drawn-fine to fine h =
       ran-mapped _ (opened to (s .n) (weightsOf f (s .n) (s .params))) (drawing f (seen s)) (λ points e.
       let a = in-use-filled (draw-accepted f (s .n) (s .x) (s .p) (scaleOf f (s .n) (s .params)) points (o .small) e) in
       record { change = fine _ (laid-weights f (s .n) (s .params) (o .passed h) (o .small) points a); given = a .bounded })
 
-  open-weighted : isShut (s .stage) ≡ false → (points : List Float) → Filled (pointNumbers (s .n)) 136 points → Laid (s .n) (record { weights = seen s .«drawn_weights»; points = points })
-  open-weighted h points a = rw h (record { weights = o .drawn-weights h; points = a })
+  open-weighted : isShut (s .stage) ≡ false → (points : List Float) → Filled (pointNumbers (s .n)) 136 points → Laid f (s .n) (s .params) (record { weights = seen s .«drawn_weights»; points = points })
+  open-weighted h points a = rw h (record { weights-of = o .drawn h .weights-of; weights = o .drawn h .weights; points = a })
 
   -- a close of a correction, of either sort
-  corrected-fine : isShut (s .stage) ≡ false → (h : Head) → h .n ≡ s .n → Ran (mapped (closed (seen s .«drawn_weights») (seen s .«drawn_points») true) (applyPlan f h)) (λ (d : Done). FineDone f (s .n) d)
+  corrected-fine : isShut (s .stage) ≡ false → (h : Head) → h .n ≡ s .n → Ran (mapped (closed (seen s .«drawn_weights») (seen s .«drawn_points») true) (applyPlan f h)) (λ (d : Done). FineDone f s d)
   unfolding allFinite
   corrected-fine t h e =
       ran-mapped _ (closed (seen s .«drawn_weights») (seen s .«drawn_points») true) (applyPlan f h) (λ q r.
       let a : Filled (s .n) 8 (q .x) × Filled (s .n * s .n) 64 (q .p) = rw (← e) (moment-filled (apply-accepted f h q (rw e (o .small)) r)) in
-      record { change = (a .0, a .1, open-weighted t (seen s .«drawn_points») (rw t (o .drawn-points t))); given = refl })
+      record { change = (a .0, a .1, open-weighted t (seen s .«drawn_points») (rw t (o .drawn t .points)), λ z. absurd (two-ways refl z)); given = refl })
 
-  pub fine : (c : Call) → Passed f (asks (seen s) c) → Ran (plan f (seen s) c) (λ (d : Done). FineDone f (s .n) d)
+  pub fine : (c : Call) → Passed f (asks (seen s) c) → Ran (plan f (seen s) c) (λ (d : Done). FineDone f s d)
   unfolding allFinite
   fine (setting (set-x v)) h =
       ran-finish _ _ (record { change = filled-front (s .n) 8 v (leb-true _ _ (h .lent .0)) (in-range 1 8 (s .n) (h .sizes .0) .1) (h .inputs); given = refl })
@@ -135,7 +133,7 @@ module _ (f : Format) (s : Filter) (o : Sound f s) where
       ran-finish _ _ (record { change = filled-front (s .n * s .n) 64 v (leb-true _ _ (h .lent .0)) (square-room (s .n) (in-range 1 8 (s .n) (h .sizes .0) .1)) (h .inputs); given = refl })
   fine (setting (set-q v)) h =
       ran-finish _ _ (record { change = filled-front (s .n * s .n) 64 v (leb-true _ _ (h .lent .0)) (square-room (s .n) (in-range 1 8 (s .n) (h .sizes .0) .1)) (h .inputs); given = refl })
-  fine (setting (set-params p)) h = ran-finish _ _ (record { change = (h .inputs, both {a = fit f (by-params (s .n) p)} (h .params) .0); given = refl })
+  fine (setting (set-params p)) h = ran-finish _ _ (record { change = (h .inputs, both {a = fit f (by-params (s .n) p)} (h .params) .0, h .fits); given = refl })
   fine (setting (set-kind i k)) h =
       ran-finish _ _ (record {
         change = (kinds-finite k (s .kinds) i (o .kinds) (h .inputs), kinds-fit k f (s .kinds) i (o .turns) (both {a = fit f (by-kind k)} (h .params) .0), length-set (s .kinds) i k ∙ o .eight, past);
@@ -149,19 +147,19 @@ module _ (f : Format) (s : Filter) (o : Sound f s) where
   fine (setting (open-correction b)) h =
       ran-either _ (s .stale) _ _
       (λ t. drawn-fine opened-correction (λ w a. a) (in-range 1 8 (s .n) (h .sizes .0) .0))
-      (λ t. ran-finish _ _ (rw t (record { change = record { weights = o .weights t; points = o .points t }; given = o .points t .bounded })))
+      (λ t. ran-finish _ _ (rw t (record { change = o .current t; given = o .current t .points .bounded })))
   fine (closing (close-prediction v)) h =
       let points = front (pointNumbers (s .n)) v (zeros 136) in
       ran-mapped _ (closed (seen s .«drawn_weights») points false) (predicting f (seen s) v) (λ m e.
       let a = moment-filled (predict-accepted f (s .n) points (w0mOf f (s .n) (s .params)) (seen s .«drawn_weights») (s .kinds) (s .q) m (o .small) e) in
       let b = filled-front (pointNumbers (s .n)) 136 v (leb-true _ _ (h .lent .0)) (points-room (s .n) (in-range 1 8 (s .n) (h .sizes .0) .1)) (h .inputs) in
-      record { change = (a .0, a .1, open-weighted (predicting-open (s .stage) (h .fits)) points b); given = refl })
+      record { change = (a .0, a .1, open-weighted (predicting-open (s .stage) (h .fits)) points b, λ z. (s .q, e)); given = refl })
   fine (closing (close-correction m z r kinds observed)) h = corrected-fine (correcting-open (s .stage) (h .fits)) (weightedFrom f (seen s) m z r kinds observed) refl
   fine (closing (close-correction-flat m z r observed)) h = corrected-fine (correcting-open (s .stage) (h .fits)) (flatFrom f (seen s) m z r observed) refl
   fine abandon h = ran-finish _ _ (record { change = tt; given = refl })
   fine (reading (read-x b)) h = ran-finish _ _ (record { change = tt; given = o .x .bounded })
   fine (reading (read-p b)) h = ran-finish _ _ (record { change = tt; given = o .p .bounded })
   fine (reading (read-q b)) h = ran-finish _ _ (record { change = tt; given = o .q .bounded })
-  fine (reading (read-points b)) h = ran-finish _ _ (record { change = tt; given = rw (h .stale) (o .points (h .stale) .bounded) })
+  fine (reading (read-points b)) h = ran-finish _ _ (record { change = tt; given = rw (h .stale) (o .current (h .stale) .points .bounded) })
   fine (reading read-params) h = ran-finish _ _ (record { change = tt; given = o .params })
   fine (reading read-stale) h = ran-finish _ _ (record { change = tt; given = refl })

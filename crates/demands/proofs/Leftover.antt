@@ -135,7 +135,7 @@ open-unchanged s (reading c) d o g h k = rw o
 
 module _ (f : Format) (s : Filter) where
   -- of a step: what holds where it is refused, and of a change of the call's own sort once its line of the table is passed
-  step-cases : (c : Call) (P : Filter → Type 0) → P s → ((d : Change) → Own c d → fits c (s .stage) ≡ true → inRange 1 8 (s .n) ≡ true → P (changed s d)) → P (step f s c .filter)
+  pub step-cases : (c : Call) (P : Filter → Type 0) → P s → ((d : Change) → Own c d → fits c (s .stage) ≡ true → inRange 1 8 (s .n) ≡ true → P (changed s d)) → P (step f s c .filter)
   unfolding step
   step-cases c P left made =
       let line = regular f (seen s) c in

@@ -43,10 +43,9 @@ module _ (f : Format) where
     turns = refl;
     eight = refl;
     past = λ i l. plain-past 8 i;
-    weights = λ e. absurd (two-ways refl e);
-    points = λ e. absurd (two-ways refl e);
-    drawn-weights = λ e. absurd (two-ways refl e);
-    drawn-points = λ e. absurd (two-ways refl e);
+    current = λ e. absurd (two-ways refl e);
+    drawn = λ e. absurd (two-ways refl e);
+    predicted = λ e. absurd (two-ways refl e);
   }
 
   empty-sound : Sound f empty
@@ -78,19 +77,19 @@ module _ (f : Format) where
 
   -- ---- changes
 
-  set-sound : (s : Filter) (c : Setting) → Sound f s → FineSetting f (s .n) c → Sound f (set s c)
-  set-sound s (x-set v) o g = record { small = o .small; x = g; p = o .p; q = o .q; params = o .params; passed = o .passed; kinds = o .kinds; turns = o .turns; eight = o .eight; past = o .past; weights = o .weights; points = o .points; drawn-weights = o .drawn-weights; drawn-points = o .drawn-points }
-  set-sound s (p-set v) o g = record { small = o .small; x = o .x; p = g; q = o .q; params = o .params; passed = o .passed; kinds = o .kinds; turns = o .turns; eight = o .eight; past = o .past; weights = o .weights; points = o .points; drawn-weights = o .drawn-weights; drawn-points = o .drawn-points }
-  set-sound s (q-set v) o g = record { small = o .small; x = o .x; p = o .p; q = g; params = o .params; passed = o .passed; kinds = o .kinds; turns = o .turns; eight = o .eight; past = o .past; weights = o .weights; points = o .points; drawn-weights = o .drawn-weights; drawn-points = o .drawn-points }
-  set-sound s (params-set v) o g = record { small = o .small; x = o .x; p = o .p; q = o .q; params = g .0; passed = λ e. g .1; kinds = o .kinds; turns = o .turns; eight = o .eight; past = o .past; weights = o .weights; points = o .points; drawn-weights = o .drawn-weights; drawn-points = o .drawn-points }
-  set-sound s (kinds-set v) o g = record { small = o .small; x = o .x; p = o .p; q = o .q; params = o .params; passed = o .passed; kinds = g .0; turns = g .1; eight = g .2; past = g .3; weights = o .weights; points = o .points; drawn-weights = o .drawn-weights; drawn-points = o .drawn-points }
-  set-sound s (opened-prediction d) o g = record { small = o .small; x = o .x; p = o .p; q = o .q; params = o .params; passed = o .passed; kinds = o .kinds; turns = o .turns; eight = o .eight; past = o .past; weights = o .weights; points = o .points; drawn-weights = λ e. g .weights; drawn-points = λ e. g .points }
-  set-sound s (opened-correction d) o g = record { small = o .small; x = o .x; p = o .p; q = o .q; params = o .params; passed = o .passed; kinds = o .kinds; turns = o .turns; eight = o .eight; past = o .past; weights = o .weights; points = o .points; drawn-weights = λ e. g .weights; drawn-points = λ e. g .points }
+  set-sound : (s : Filter) (c : Setting) → Sound f s → FineSetting f s c → Sound f (set s c)
+  set-sound s (x-set v) o g = record { small = o .small; x = g; p = o .p; q = o .q; params = o .params; passed = o .passed; kinds = o .kinds; turns = o .turns; eight = o .eight; past = o .past; current = λ e. absurd (two-ways refl e); drawn = o .drawn; predicted = λ e. absurd (two-ways refl e) }
+  set-sound s (p-set v) o g = record { small = o .small; x = o .x; p = g; q = o .q; params = o .params; passed = o .passed; kinds = o .kinds; turns = o .turns; eight = o .eight; past = o .past; current = λ e. absurd (two-ways refl e); drawn = o .drawn; predicted = λ e. absurd (two-ways refl e) }
+  set-sound s (q-set v) o g = record { small = o .small; x = o .x; p = o .p; q = g; params = o .params; passed = o .passed; kinds = o .kinds; turns = o .turns; eight = o .eight; past = o .past; current = o .current; drawn = o .drawn; predicted = o .predicted }
+  set-sound s (params-set v) o g = record { small = o .small; x = o .x; p = o .p; q = o .q; params = g .0; passed = λ e. g .1; kinds = o .kinds; turns = o .turns; eight = o .eight; past = o .past; current = λ e. absurd (two-ways refl e); drawn = λ e. absurd (two-ways (g .2) e); predicted = λ e. absurd (two-ways refl e) }
+  set-sound s (kinds-set v) o g = record { small = o .small; x = o .x; p = o .p; q = o .q; params = o .params; passed = o .passed; kinds = g .0; turns = g .1; eight = g .2; past = g .3; current = λ e. absurd (two-ways refl e); drawn = o .drawn; predicted = λ e. absurd (two-ways refl e) }
+  set-sound s (opened-prediction d) o g = record { small = o .small; x = o .x; p = o .p; q = o .q; params = o .params; passed = o .passed; kinds = o .kinds; turns = o .turns; eight = o .eight; past = o .past; current = o .current; drawn = λ e. g; predicted = o .predicted }
+  set-sound s (opened-correction d) o g = record { small = o .small; x = o .x; p = o .p; q = o .q; params = o .params; passed = o .passed; kinds = o .kinds; turns = o .turns; eight = o .eight; past = o .past; current = o .current; drawn = λ e. g; predicted = o .predicted }
 
-  changed-sound : (s : Filter) (c : Change) → Sound f s → Fine f (s .n) c → Sound f (changed s c)
+  changed-sound : (s : Filter) (c : Change) → Sound f s → Fine f s c → Sound f (changed s c)
   changed-sound s (sets c) o g = set-sound s c o g
-  changed-sound s (closes c) o g = record { small = o .small; x = g .0; p = g .1; q = o .q; params = o .params; passed = o .passed; kinds = o .kinds; turns = o .turns; eight = o .eight; past = o .past; weights = λ e. g .2 .weights; points = λ e. g .2 .points; drawn-weights = λ e. absurd (two-ways refl e); drawn-points = λ e. absurd (two-ways refl e) }
-  changed-sound s abandons o g = record { small = o .small; x = o .x; p = o .p; q = o .q; params = o .params; passed = o .passed; kinds = o .kinds; turns = o .turns; eight = o .eight; past = o .past; weights = o .weights; points = o .points; drawn-weights = λ e. absurd (two-ways refl e); drawn-points = λ e. absurd (two-ways refl e) }
+  changed-sound s (closes c) o g = record { small = o .small; x = g .0; p = g .1; q = o .q; params = o .params; passed = o .passed; kinds = o .kinds; turns = o .turns; eight = o .eight; past = o .past; current = λ e. g .2; drawn = λ e. absurd (two-ways refl e); predicted = g .3 }
+  changed-sound s abandons o g = record { small = o .small; x = o .x; p = o .p; q = o .q; params = o .params; passed = o .passed; kinds = o .kinds; turns = o .turns; eight = o .eight; past = o .past; current = o .current; drawn = λ e. absurd (two-ways refl e); predicted = o .predicted }
   changed-sound s reads o g = o
 
   set-tidy : (s : Filter) (c : Setting) → Tidy s → Tidy (set s c)
@@ -102,7 +101,7 @@ module _ (f : Format) where
   set-tidy s (opened-prediction d) t = record { points = t .points; weights = t .weights; scratch-weights = λ e. absurd (two-ways e refl); scratch-points = λ e. absurd (two-ways e refl) }
   set-tidy s (opened-correction d) t = record { points = t .points; weights = t .weights; scratch-weights = λ e. absurd (two-ways e refl); scratch-points = λ e. absurd (two-ways e refl) }
 
-  changed-tidy : (s : Filter) (c : Change) → Tidy s → Fine f (s .n) c → Tidy (changed s c)
+  changed-tidy : (s : Filter) (c : Change) → Tidy s → Fine f s c → Tidy (changed s c)
   changed-tidy s (sets c) t g = set-tidy s c t
   changed-tidy s (closes c) t g = record { points = g .2 .points; weights = g .2 .weights; scratch-weights = λ e. refl; scratch-points = λ e. refl }
   changed-tidy s abandons t g = record { points = t .points; weights = t .weights; scratch-weights = λ e. refl; scratch-points = λ e. refl }
@@ -111,8 +110,8 @@ module _ (f : Format) where
   -- ---- EVERY CALL KEEPS IT
 
   module _ (s : Filter) (c : Call) (o : Sound f s) where
-    fine-cases : (P : Outcome Done → Type 0) → ((r : Refusal) → P (refused r)) → ((d : Done) → FineDone f (s .n) d → P (accepted d)) → P (outcome f (seen s) c)
-    fine-cases P left taken = by-cases P left f (asks (seen s) c) (run (plan f (seen s) c)) (λ h. run-cases (FineDone f (s .n)) P left (plan f (seen s) c) (fine f s o c h) taken)
+    fine-cases : (P : Outcome Done → Type 0) → ((r : Refusal) → P (refused r)) → ((d : Done) → FineDone f s d → P (accepted d)) → P (outcome f (seen s) c)
+    fine-cases P left taken = by-cases P left f (asks (seen s) c) (run (plan f (seen s) c)) (λ h. run-cases (FineDone f s) P left (plan f (seen s) c) (fine f s o c h) taken)
 
     pub step-sound : Sound f (step f s c .filter)
     unfolding step
@@ -139,10 +138,9 @@ module _ (f : Format) where
     turns = rw (sym (a .kinds)) (o .turns);
     eight = rw (sym (a .kinds)) (o .eight);
     past = rw (sym (a .n), sym (a .kinds)) (o .past);
-    weights = λ e. absurd (two-ways (a .stale₂) e);
-    points = λ e. absurd (two-ways (a .stale₂) e);
-    drawn-weights = λ e. absurd (two-ways (ap isShut (a .shut₂)) e);
-    drawn-points = λ e. absurd (two-ways (ap isShut (a .shut₂)) e);
+    current = λ e. absurd (two-ways (a .stale₂) e);
+    drawn = λ e. absurd (two-ways (ap isShut (a .shut₂)) e);
+    predicted = λ e. absurd (two-ways (a .stale₂) e);
   }
 
   pub sound : {s : Filter} → Yielded f s → Sound f s

@@ -1,11 +1,11 @@
--- THE TABLE OF CASES: document 01's numbers to check by hand, C1 to C12, and one run through document 02's flat close, each a name and a test that antt computes. Definitions only.
+-- THE TABLE OF CASES: document 01's numbers to check by hand, C1 to C12, and a run each for document 02's A1 (the flat close) and A3 (settings mark stale); each a name and a test that antt computes. Definitions only.
 use Prim.Native.Nat.{ℕ}
 use Prim.Native.String.{String}
 use mathlib.Core.Bool.{Bool, true, false, _&&_, Bool·beq}
 use mathlib.Core.List.{List, [], _∷_, _++_, map}
 use lib.ListN.{take, getD, replicate}
 use lib.Dec.{eqb}
-use lib.Ieee.{Float, nan, binary64, ofBits}
+use lib.Ieee.{Float, nan, binary64, ofBits, neg}
 use Rattle.floats.specs.Refusal.{PIVOT, Outcome, refused, accepted, refusal, or}
 use Rattle.floats.specs.Numbers.{zeros}
 use Rattle.floats.specs.Fronts.{front}
@@ -20,7 +20,7 @@ use Rattle.sigma.specs.Weights.{lambdaOf, scaleOf, w0mOf, w0cOf, wiOf, weightsO
 use Rattle.sigma.specs.Mean.{meanOf}
 use Rattle.correction.specs.Correct.{Head, given, weightedHead}
 use Rattle.filter.specs.declared.Filter.{Filter}
-use Rattle.filter.specs.Calls.{Call, setting, closing, abandon, reading, set-x, set-p, set-kind, open-prediction, open-correction, close-prediction, close-correction, close-correction-flat, read-points, read-stale}
+use Rattle.filter.specs.Calls.{Call, setting, closing, abandon, reading, set-x, set-p, set-q, set-params, set-kind, open-prediction, open-correction, close-prediction, close-correction, close-correction-flat, read-points, read-stale}
 use Rattle.filter.specs.New.{newAnswer}
 use Rattle.demands.specs.Listed.{gain}
 use Rattle.demands.specs.Runs.{Told, told}
@@ -79,9 +79,12 @@ at-first = newAnswer binary64 1 (int 2 ∷ []) (int 4 ∷ []) (int 1 ∷ []) c1 
 abbrev pub three : List Float
 three = nan ∷ nan ∷ nan ∷ []
 
--- z with R = 12 and the observed points, all kinds plain
+-- R, z and the observed points, all kinds plain; and with R = 12
+abbrev pub measuringBy : Float → Float → List Float → Call
+measuringBy r z observed = closing (close-correction 1 (z ∷ []) (r ∷ []) (replicate 4 plain) observed)
+
 abbrev pub measuring : Float → List Float → Call
-measuring z observed = closing (close-correction 1 (z ∷ []) (int 12 ∷ []) (replicate 4 plain) observed)
+measuring = measuringBy (int 12)
 
 -- what a call should tell: the number, the numbers given, and x, P and the stale mark after it
 abbrev pub telling : ℕ → List Float → Float → Float → Bool → Told
@@ -130,6 +133,27 @@ flatStory =
     ∷ ("A1 a number before a turn", (measuringFlat nan, telling 5 [] (int 3) (int 4) true))
     ∷ ("A1 turned away", (measuringFlat (int 6), telling 10 [] (int 3) (int 4) true))
     ∷ ("A1 abandoned", (abandon, telling 0 [] (int 3) (int 4) true))
+    ∷ []
+
+-- A3 through the calls, on the same filter. Propagated 2, 11/4, 5/4 the points have the mean 2, and P = 9/16 + Q. The same x set again marks stale, so the next open draws afresh, by the root 5/4 of P. After another such prediction neither Q nor a refusal by 6 marks, and the points stand.
+-- Then alpha = 2, so that N = 4, w0m = 3/4, w0c = −9/4 and wi = 1/8: points 2, 2 + 2·5/4, 2 − 2·5/4. Observed 2, 6, 2 have the mean 2 + 4/8; S = −9/4·1/4 + (49/4 + 1/4)/8 + 3 = 4, C = (5/2·7/2 + 5/2·1/2)/8 = 5/4, K = 5/16, y = 13/2 − 5/2, so x = 2 + 5/4 and P = 25/16 − 25/64.
+-- (By the old points with the old weights 0, 1/2, 1/2 and the new w0m, as document 01 had it, x would be 89/37.)
+abbrev pub settingStory : List (String × (Call × Told))
+settingStory =
+    ("A3 prediction opened", (setting (open-prediction three), telling 0 (int 2 ∷ int 4 ∷ int 0 ∷ []) (int 2) (int 4) true))
+    ∷ ("A3 prediction closed", (closing (close-prediction (int 2 ∷ frac 11 4 ∷ frac 5 4 ∷ [])), telling 0 [] (int 2) (frac 25 16) false))
+    ∷ ("A3 the same x marks", (setting (set-x (int 2 ∷ [])), telling 0 [] (int 2) (frac 25 16) true))
+    ∷ ("A3 drawn afresh", (setting (open-correction three), telling 0 (int 2 ∷ frac 13 4 ∷ frac 3 4 ∷ []) (int 2) (frac 25 16) true))
+    ∷ ("A3 abandoned", (abandon, telling 0 [] (int 2) (frac 25 16) true))
+    ∷ ("A3 predicted again", (setting (open-prediction three), telling 0 (int 2 ∷ frac 13 4 ∷ frac 3 4 ∷ []) (int 2) (frac 25 16) true))
+    ∷ ("A3 not stale", (closing (close-prediction (int 2 ∷ frac 11 4 ∷ frac 5 4 ∷ [])), telling 0 [] (int 2) (frac 25 16) false))
+    ∷ ("A3 Q marks not", (setting (set-q (int 9 ∷ [])), telling 0 [] (int 2) (frac 25 16) false))
+    ∷ ("A3 a refusal marks not", (setting (set-params c4), telling 6 [] (int 2) (frac 25 16) false))
+    ∷ ("A3 points stand", (reading (read-points three), telling 0 (int 2 ∷ frac 11 4 ∷ frac 5 4 ∷ []) (int 2) (frac 25 16) false))
+    ∷ ("A3 alpha marks", (setting (set-params (params (int 2) (int 0) (int 0))), telling 0 [] (int 2) (frac 25 16) true))
+    ∷ ("A3 points not read", (reading (read-points three), telling 4 [] (int 2) (frac 25 16) true))
+    ∷ ("A3 drawn by the new alpha", (setting (open-correction three), telling 0 (int 2 ∷ frac 9 2 ∷ neg (frac 1 2) ∷ []) (int 2) (frac 25 16) true))
+    ∷ ("A3 corrected by one setting", (measuringBy (int 3) (frac 13 2) (int 2 ∷ int 6 ∷ int 2 ∷ []), telling 0 [] (frac 13 4) (frac 75 64) true))
     ∷ []
 
 abbrev pub agrees : Told → Told → Bool
@@ -181,5 +205,8 @@ callCases = against story (told binary64 at-first (map (λ e. e .1 .0) story))
 abbrev pub flatCases : List (String × Bool)
 flatCases = against flatStory (told binary64 at-first (map (λ e. e .1 .0) flatStory))
 
+abbrev pub settingCases : List (String × Bool)
+settingCases = against settingStory (told binary64 at-first (map (λ e. e .1 .0) settingStory))
+
 abbrev pub cases : List (String × Bool)
-cases = leafCases ++ (callCases ++ flatCases)
+cases = leafCases ++ (callCases ++ (flatCases ++ settingCases))

@@ -5,12 +5,15 @@ use mathlib.Core.Bool.{true, false}
 use mathlib.Core.List.{List, [], _∷_, _++_}
 use lib.ListN.{length, take, drop, getD}
 use lib.Ieee.{Float, Format}
+use Rattle.floats.specs.Refusal.{accepted}
 use Rattle.floats.specs.Numbers.{zeros, allFinite}
 use Rattle.angles.specs.Kinds.{plain}
 use Rattle.sigma.specs.declared.Params.{Params}
-use Rattle.sigma.specs.Weights.{weightsPass}
+use Rattle.sigma.specs.Weights.{w0mOf, weightsOf, weightsPass}
 use Rattle.sigma.specs.Draw.{pointNumbers}
+use Rattle.sigma.specs.Predict.{predictOf}
 use Rattle.filter.specs.declared.Filter.{Filter}
+use Rattle.filter.specs.declared.Weighted.{Weighted}
 use Rattle.filter.specs.Asked.{fit, every}
 use Rattle.filter.specs.Filters.{isShut}
 use Rattle.filter.specs.Calls.{Call, inKinds, asKinds}
@@ -24,7 +27,17 @@ pub record Filled (k m : ℕ) (l : List Float) : Type 0 where
   pub bounded : allFinite (take k l) ≡ true
   pub unused : drop k l ≡ zeros (m - k)
 
--- THE INVARIANT. The current points and weights count while not stale, the drawn ones while a call is open; the empty filter has n = 0, and passes 6 for no number of states.
+-- points and weights that count: 2n+1 finite points, and as many finite weights, those of the parameters p
+pub record Laid (f : Format) (n : ℕ) (p : Params) (w : Weighted) : Type 0 where
+  pub weights-of : w .weights ≡ weightsOf f n p
+  pub weights : Filled (n + n + 1) 17 (w .weights)
+  pub points : Filled (pointNumbers n) 136 (w .points)
+
+-- x and P are what a prediction makes of the current points by the weights, parameters and kinds as they stand, with some Q
+abbrev pub Predicted : Format → Filter → Type 0
+Predicted f s = (q : List Float) × (predictOf f (s .n) (s .points) (w0mOf f (s .n) (s .params)) (s .weights) (s .kinds) q ≡ accepted (record { x = s .x; p = s .p }))
+
+-- THE INVARIANT. The empty filter has n = 0, and passes 6 for no number of states.
 pub record Sound (f : Format) (s : Filter) : Type 0 where
   pub small : s .n ≤ 8
   pub x : Filled (s .n) 8 (s .x)
@@ -38,10 +51,11 @@ pub record Sound (f : Format) (s : Filter) : Type 0 where
   pub eight : length (s .kinds) ≡ 8
   -- those past the states are plain
   pub past : (i : ℕ) → s .n ≤ i → getD (s .kinds) i plain ≡ plain
-  pub weights : s .stale ≡ false → Filled (s .n + s .n + 1) 17 (s .weights)
-  pub points : s .stale ≡ false → Filled (pointNumbers (s .n)) 136 (s .points)
-  pub drawn-weights : isShut (s .stage) ≡ false → Filled (s .n + s .n + 1) 17 (s .«drawn_weights»)
-  pub drawn-points : isShut (s .stage) ≡ false → Filled (pointNumbers (s .n)) 136 (s .«drawn_points»)
+  -- the current points and weights count while not stale, the drawn ones while a call is open; and they are those of the parameters as they stand
+  pub current : s .stale ≡ false → Laid f (s .n) (s .params) (record { weights = s .weights; points = s .points })
+  pub drawn : isShut (s .stage) ≡ false → Laid f (s .n) (s .params) (record { weights = s .«drawn_weights»; points = s .«drawn_points» })
+  -- while not stale nothing but Q has been set since the prediction
+  pub predicted : s .stale ≡ false → Predicted f s
 
 -- beside it, of a filter that no one has put at will: points and weights are finite with +0 in unused places while stale too, and scratch is +0 while nothing is open
 pub record Tidy (s : Filter) : Type 0 where

@@ -79,13 +79,13 @@ withDrawn s t d = filter (s .n) (s .x) (s .p) (s .q) (s .params) (s .kinds) (s .
 abbrev pub nothingDrawn : Weighted
 nothingDrawn = record { weights = zeros 17; points = zeros 136 }
 
--- none of the setters touches the stale mark, points or weights
+-- no setter touches points or weights; each but that of Q marks stale, the same number set again too
 abbrev pub set : Filter → Setting → Filter
-set s (x-set v) = filter (s .n) v (s .p) (s .q) (s .params) (s .kinds) (s .weights) (s .points) (s .stale) (s .stage) (s .«drawn_weights») (s .«drawn_points»)
-set s (p-set v) = filter (s .n) (s .x) v (s .q) (s .params) (s .kinds) (s .weights) (s .points) (s .stale) (s .stage) (s .«drawn_weights») (s .«drawn_points»)
+set s (x-set v) = filter (s .n) v (s .p) (s .q) (s .params) (s .kinds) (s .weights) (s .points) true (s .stage) (s .«drawn_weights») (s .«drawn_points»)
+set s (p-set v) = filter (s .n) (s .x) v (s .q) (s .params) (s .kinds) (s .weights) (s .points) true (s .stage) (s .«drawn_weights») (s .«drawn_points»)
 set s (q-set v) = filter (s .n) (s .x) (s .p) v (s .params) (s .kinds) (s .weights) (s .points) (s .stale) (s .stage) (s .«drawn_weights») (s .«drawn_points»)
-set s (params-set v) = filter (s .n) (s .x) (s .p) (s .q) v (s .kinds) (s .weights) (s .points) (s .stale) (s .stage) (s .«drawn_weights») (s .«drawn_points»)
-set s (kinds-set v) = filter (s .n) (s .x) (s .p) (s .q) (s .params) v (s .weights) (s .points) (s .stale) (s .stage) (s .«drawn_weights») (s .«drawn_points»)
+set s (params-set v) = filter (s .n) (s .x) (s .p) (s .q) v (s .kinds) (s .weights) (s .points) true (s .stage) (s .«drawn_weights») (s .«drawn_points»)
+set s (kinds-set v) = filter (s .n) (s .x) (s .p) (s .q) (s .params) v (s .weights) (s .points) true (s .stage) (s .«drawn_weights») (s .«drawn_points»)
 set s (opened-prediction d) = withDrawn s Predicting d
 set s (opened-correction d) = withDrawn s Correcting d
 

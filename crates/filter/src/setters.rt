@@ -1,4 +1,4 @@
-// Set x, P, Q, the parameters and a kind. None of them touches the stale mark, points or weights.
+// Set x, P, Q, the parameters and a kind. None of them touches points or weights; each but that of Q marks them stale, so that the next correction draws afresh.
 ghost use mathlib.Core.Path.{_≡_};
 ghost use lib.Ieee.{binary64};
 ghost use Rattle.filter.specs.Calls.{setting, set-x, set-p, set-q, set-params, set-kind};
@@ -26,6 +26,7 @@ impl Filter {
         }
         let x = fronts::vector(src, n);
         let mut f = self;
+        f.stale = true;
         f.x = x;
         Answer {
             filter: f,
@@ -49,6 +50,7 @@ impl Filter {
         }
         let p = fronts::matrix(src, k);
         let mut f = self;
+        f.stale = true;
         f.p = p;
         Answer {
             filter: f,
@@ -96,6 +98,7 @@ impl Filter {
             };
         }
         let mut f = self;
+        f.stale = true;
         f.params = params;
         Answer {
             filter: f,
@@ -120,6 +123,7 @@ impl Filter {
             };
         }
         let mut f = self;
+        f.stale = true;
         f.kinds[i] = kind;
         Answer {
             filter: f,

@@ -1,7 +1,9 @@
-//! Runs the published Rust on the smallest inputs that documents 01 and 02 refuse, and the published wrap beside the exact one.
+//! Runs the published Rust on the smallest inputs that documents 01 and 02 refuse, on settings between a prediction and a correction,
+//! and the published wrap beside the exact one.
 //! Prints tables in plain text; docs/DIFFERENCES.md is written from them.
 
 use oracle::angles::{wrap_180, wrap_pi};
+use oracle::filter::{Filter, Trouble};
 use oracle::kinds::{wrap, Kind};
 use oracle::matrix::MatrixDataType;
 use oracle::published::{Held, Measurement, Published};
@@ -25,6 +27,8 @@ fn main() {
     ranges();
     println!("\nThe flat close (request A1): C9's filter again, then z=6, R=10, observed 2, 5, -1.\n");
     flat();
+    println!("\nSettings between a prediction and a correction (request A3): C9's filter, a setting, then z=3, R=12 with the state itself observed.\n");
+    settings();
     println!("\nThe published wrap beside document 01's exact one; bits of both.\n");
     wraps();
 }
@@ -161,6 +165,36 @@ fn flat() {
     let mut held = c9();
     held.predict(&[1.0e308; 3]);
     row("9", "propagated 1e308 thrice: the sum for x mean overflows", correct(&mut held, Average::Flat, 6.0, 10.0, [2.0, 5.0, -1.0]));
+}
+
+/// What request A3 changes: the published Rust goes on with the old points and weights, the documents draw afresh.
+fn settings() {
+    let par = Params { alpha: 2.0, ..C1 };
+    setting("nothing set: C10", |_| {}, |_| Ok(()));
+    setting("alpha = 2", |rust| rust.set_params(par), |filter| filter.set_params(par));
+    setting("alpha = 1 again", |rust| rust.set_params(C1), |filter| filter.set_params(C1));
+    setting("x = 10", |rust| rust.set_x(&[10.0]), |filter| filter.set_x(&[10.0]));
+    setting("P = 9", |rust| rust.set_p(&[9.0]), |filter| filter.set_p(&[9.0]));
+    setting("a turn of 1.5", |rust| rust.set_kinds(&[Kind::Turn(1.5)]), |filter| filter.set_kind(0, Kind::Turn(1.5)));
+    setting("Q = 9", |rust| rust.set_q(&[9.0]), |filter| filter.set_q(&[9.0]));
+}
+
+fn setting(name: &str, rust: impl FnOnce(&mut Held<1, 3>), ours: impl FnOnce(&mut Filter) -> Result<(), Trouble>) {
+    let mut held = unmoved(c9());
+    rust(&mut held);
+    let points = held.points();
+    let given = correct(&mut held, Average::Weighted, 3.0, 12.0, [points[0], points[1], points[2]]);
+    let taken = || -> Result<String, Trouble> {
+        let (mut filter, mut points) = (Filter::new(1, &[2.0], &[4.0], &[1.0], C1)?, [0.0; 3]);
+        filter.open_prediction(&mut points)?;
+        filter.close_prediction(&points)?;
+        ours(&mut filter)?;
+        filter.open_correction(&mut points)?;
+        filter.close_correction(1, &[3.0], &[12.0], [Kind::Plain; 4], &points)?;
+        Ok(format!("x={:?} P={:?}, points {points:?}", filter.x, filter.p))
+    };
+    row("", name, format!("published {given}, points {points:?}"));
+    row("", "", format!("documents {}", taken().expect("nothing is refused")));
 }
 
 fn wraps() {

@@ -1,7 +1,7 @@
 //! Filters led to each refusal that a step gives: 7, 8, and 9 in every listed step result, of the weighted close and of the flat one.
 
 use oracle::kinds::Kind;
-use oracle::steps::{Average, Params};
+use oracle::steps::{Average, Params, Weights};
 
 use crate::maker::{params, Fault, Made, Maker};
 use crate::rounds::power;
@@ -209,33 +209,36 @@ impl Maker {
         Ok(())
     }
 
-    /// Points far (`size`, squared beyond all doubles) from their mean, with P finite all the same.
-    fn far_mean(&mut self, average: Average, size: f64) -> Made<()> {
+    /// Points drawn so far apart (`size`, squared beyond all doubles) that flat sums over them overflow; weights shrink with the distance. The root of N is alpha.
+    fn far_points(&mut self, size: f64) -> Made<()> {
         let n = self.n();
-        let par = match average {
-            // Points all alike; then parameters with another w0m, which the Rust mixes with the weights that it kept: the mean lies elsewhere.
-            Average::Weighted => {
-                let one: Vec<f64> = (0..n).map(|_| self.about(size)).collect();
-                self.alike(&one)?;
-                Params { alpha: self.random.pick(&[1.0e-5, 1.0e-6]), beta: 0.0, kappa: 0.0 }
-            }
-            // Points drawn that far apart: the root of N is alpha.
-            Average::Flat => {
-                let p = self.random.covariance(n, 1.0e50);
-                self.set_p(&p)?;
-                Params { alpha: size * 1.0e-50, beta: 0.0, kappa: 1.0 - n as f64 }
-            }
-        };
-        self.say(format!("setpar{}", params(par)))?;
+        let p = self.random.covariance(n, 1.0e50);
+        self.set_p(&p)?;
+        self.say(format!("setpar{}", params(Params { alpha: size * 1.0e-50, beta: 0.0, kappa: 1.0 - n as f64 })))?;
         Ok(())
     }
 
     fn x_mean(&mut self, average: Average, m: usize) -> Made<()> {
+        let n = self.n();
         match average {
-            Average::Weighted => self.far_mean(average, 1.0e300)?,
+            // The weights add up to more than 1, rounded as they are, and x is the largest double.
+            Average::Weighted => {
+                let mut x = self.random.vector(n, 1.0);
+                let at = self.random.below(n);
+                x[at] = self.random.sign() * MAX;
+                self.set_x(&x)?;
+                let par = loop {
+                    let par = Params { alpha: self.random.within(1.0e-5, 1.0e-2), beta: 0.0, kappa: 0.0 };
+                    let weights = Weights::of(n, par);
+                    if (0..2 * n).fold(weights.w0m, |sum, _| sum + weights.wi) > 1.0 {
+                        break par;
+                    }
+                };
+                self.say(format!("setpar{}", params(par)))?;
+            }
             // Each point is finite, their sum isn't.
             Average::Flat => {
-                let one: Vec<f64> = (0..self.n()).map(|_| self.random.within(0.7, 1.7) * 1.0e308 * self.random.sign()).collect();
+                let one: Vec<f64> = (0..n).map(|_| self.random.within(0.7, 1.7) * 1.0e308 * self.random.sign()).collect();
                 self.alike(&one)?;
             }
         }
@@ -245,21 +248,49 @@ impl Maker {
         Ok(())
     }
 
-    /// Observes `size` at two opposite points and 0 at the centre, whose weight is far off.
-    fn opposite(&mut self, m: usize, size: f64) -> Made<Vec<f64>> {
+    /// Observes `size` at two opposite points and 0 at the others.
+    fn opposite(&mut self, m: usize, size: f64) -> Made<(Vec<f64>, usize)> {
         let mut observed = self.opened_correction(m)?;
         let (n, j) = (self.n(), self.random.below(m));
         observed[m + j] = size;
         observed[(1 + n) * m + j] = -size;
-        Ok(observed)
+        Ok((observed, j))
     }
 
     fn cross_covariance(&mut self, average: Average, m: usize) -> Made<()> {
-        self.far_mean(average, 1.0e200)?;
-        let observed = self.opposite(m, 1.0e150)?;
+        let observed = match average {
+            // The centre weighs -1 and lies as far off as two opposite points, on one side of the mean for x and on the other for z:
+            // the squares all but cancel in P and in S, and the products add up.
+            Average::Weighted => {
+                let (n, sign) = (self.n(), self.random.sign());
+                self.say(format!("setpar{}", params(Params { alpha: 1.0, beta: -1.0, kappa: 0.0 })))?;
+                let (i, centre, pair) = (self.random.below(n), 1.2e154 * sign, 1.25e154 * sign * (n as f64).sqrt());
+                self.open_prediction()?;
+                let mut moved = vec![0.0; n * (2 * n + 1)];
+                (moved[i], moved[n + i], moved[(1 + n) * n + i]) = (centre, pair, -pair);
+                self.close_prediction(&moved)?;
+                let (mut observed, j) = self.opposite(m, pair)?;
+                observed[j] = -centre;
+                observed
+            }
+            Average::Flat => {
+                self.far_points(1.0e200)?;
+                self.opposite(m, 1.0e150)?.0
+            }
+        };
         let r = self.noise_of_one(m);
         self.close_correction(average, &vec![0.0; m], &r, &PLAIN[..m], &observed)?;
         Ok(())
+    }
+
+    /// P of this size and `seen` observed at two opposite points, with an R that takes all but 2^-50 of their spread away: S is that much too small.
+    fn nearly_no_noise(&mut self, m: usize, p: f64, seen: f64) -> Made<(Vec<f64>, Vec<f64>)> {
+        let n = self.n();
+        self.set_p(&diagonal(n, p))?;
+        let (observed, j) = self.opposite(m, seen)?;
+        let mut r = diagonal(m, 1.0);
+        r[j * m + j] = -2.0 * self.reader.filter.drawn_weights[1] * seen * seen * (1.0 - power(-50));
+        Ok((observed, r))
     }
 
     fn pivot_of_s(&mut self, average: Average, m: usize) -> Made<()> {
@@ -298,13 +329,19 @@ impl Maker {
     }
 
     fn gain(&mut self, average: Average, m: usize) -> Made<()> {
-        self.far_mean(average, 1.0e200)?;
-        let mut observed = self.opened_correction(m)?;
-        // Not opposite: with equal deviations of the states, the terms must not cancel.
-        let j = self.random.below(m);
-        observed[m + j] = 1.0e-150;
-        let mut r = diagonal(m, 1.0);
-        r[j * m + j] = 0.0;
+        let (observed, r) = match average {
+            Average::Weighted => self.nearly_no_noise(m, power(1020), power(-470))?,
+            Average::Flat => {
+                self.far_points(1.0e200)?;
+                let mut observed = self.opened_correction(m)?;
+                // Not opposite: with equal deviations of the states, the terms must not cancel.
+                let j = self.random.below(m);
+                observed[m + j] = 1.0e-150;
+                let mut r = diagonal(m, 1.0);
+                r[j * m + j] = 0.0;
+                (observed, r)
+            }
+        };
         self.close_correction(average, &vec![0.0; m], &r, &PLAIN[..m], &observed)?;
         Ok(())
     }
@@ -347,17 +384,20 @@ impl Maker {
     }
 
     fn corrected_p(&mut self, average: Average, m: usize) -> Made<()> {
-        self.far_mean(average, 1.0e200)?;
-        let mut observed = self.opened_correction(m)?;
-        let j = self.random.below(m);
-        observed[m + j] = 1.0;
-        // The mean of z is that of the first point that differs; z meets it, so that x stays.
+        // z meets its mean, so that x stays.
         let mut z = vec![0.0; m];
-        z[j] = match average {
-            Average::Weighted => self.reader.filter.drawn_weights[1],
-            Average::Flat => 1.0 / (2 * self.n() + 1) as f64,
+        let (observed, r) = match average {
+            Average::Weighted => self.nearly_no_noise(m, power(1000), 1.0)?,
+            Average::Flat => {
+                self.far_points(1.0e200)?;
+                let mut observed = self.opened_correction(m)?;
+                let j = self.random.below(m);
+                observed[m + j] = 1.0;
+                z[j] = 1.0 / (2 * self.n() + 1) as f64;
+                (observed, diagonal(m, 1.0))
+            }
         };
-        self.close_correction(average, &z, &diagonal(m, 1.0), &PLAIN[..m], &observed)?;
+        self.close_correction(average, &z, &r, &PLAIN[..m], &observed)?;
         Ok(())
     }
 }

@@ -12,7 +12,13 @@ impl Maker {
         self.fresh(n, unit)?;
         for _ in 0..self.random.between(4, 14) {
             match self.random.below(20) {
-                0..=6 => self.prediction(unit)?,
+                0..=5 => self.prediction(unit)?,
+                6 => {
+                    // Tuned between a prediction and a fix.
+                    self.prediction(unit)?;
+                    self.setter(unit)?;
+                    self.correction(unit)?;
+                }
                 7..=12 => {
                     // Several in a row: each but the first is drawn afresh.
                     for _ in 0..self.random.between(1, 3) {
@@ -286,29 +292,39 @@ impl Maker {
         Ok(())
     }
 
-    /// Sets something to what passes, as far as nothing is open.
+    /// Sets something to what passes, as far as nothing is open; now and then to what is there already.
     pub fn setter(&mut self, unit: f64) -> Made<()> {
-        let n = self.n();
+        let (n, again) = (self.n(), self.n() > 0 && self.random.chance(15));
         let line = match self.random.below(5) {
             0 => {
-                let x = self.random.vector(n, unit);
+                let x = if again { self.reader.filter.x.clone() } else { self.random.vector(n, unit) };
                 format!("setx {}", self.list(&x, Fault::None))
             }
             1 => {
-                let p = self.random.covariance(n, unit);
+                let p = if again { self.reader.filter.p.clone() } else { self.random.covariance(n, unit) };
                 format!("setp {}", self.list(&p, Fault::None))
             }
             2 => {
-                let q = self.random.noise(n, unit);
+                let q = if again { self.reader.filter.q.clone() } else { self.random.noise(n, unit) };
                 format!("setq {}", self.list(&q, Fault::None))
             }
-            3 => format!("setpar{}", params(self.random.params(n))),
+            3 => format!("setpar{}", params(if again { self.reader.filter.par } else { self.random.params(n) })),
             _ => {
-                let new = if self.random.chance(40) { Kind::Plain } else { Kind::Turn(self.random.half_turn(unit)) };
-                format!("setkind {} {}", self.random.below(n.max(1)), kind(new))
+                let i = self.random.below(n.max(1));
+                let new = if again {
+                    self.reader.filter.kinds[i]
+                } else if self.random.chance(40) {
+                    Kind::Plain
+                } else {
+                    Kind::Turn(self.random.half_turn(unit))
+                };
+                format!("setkind {i} {}", kind(new))
             }
         };
         self.say(line)?;
+        if self.random.chance(20) {
+            self.say("readstale")?;
+        }
         Ok(())
     }
 
