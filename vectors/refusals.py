@@ -188,7 +188,7 @@ CALLS = [
     ('closec 1 [3.0] [-12.0] p t nan t 0.0 t inf [2.0 4.0 0.0]', '8'),
     ('closec 1 [3.0] [0.0] p p p p [2.0 2.0 2.0]', '8'),
     ('closec 1 [3.0] [-12.0] p p p p [' + BIG + ' -' + BIG + ' 0.0]', '9'),
-    '# 9 at S, at the inverse, at y; the cross covariance, the gain, x and P stand among the long recorded calls',
+    '# 9 at S, at the inverse, at y; the x mean, the cross covariance, the gain, x and P stand among the long recorded calls',
     ('closec 1 [3.0] [12.0] p p p p [0.0 ' + HUGE + ' -' + HUGE + ']', '9'),
     ('closec 1 [3.0] [1.0e-310] p p p p [2.0 2.0 2.0]', '9'),
     ('closec 1 [' + BIG + '] [12.0] p p p p [-' + BIG + ' -' + BIG + ' -' + BIG + ']', '9'),
@@ -339,6 +339,12 @@ CALLS = [
     ('openc 10', '0 10 0.0 0.0 2.0 0.0 0.0 2.0 -2.0 0.0 0.0 -2.0'),
     ('closef 1 [4.0] [6.0] [0.0 5.0 0.0 -5.0]', '2'),
     ('closef 1 [4.0] [6.0] [0.0 5.0 0.0 -5.0 0.0]', '0 x 1.0 0.0 P 3.0 0.0 0.0 4.0'),
+    '# the gain is added to the stored x in the weighted close too. A turn of 2 takes the difference -2 for 2, so the points 2, 4, 0 have the mean 4 and x is 2; from that mean they differ by 2, 0 and -0.',
+    '# beta 1: the weights 1, 0.5, 0.5. z mean = 2 + 0.5*4 + 0.5*4 = 6, S = 1*16 + 48 = 64, C = 1*2*(-4) = -8, K = -1/8, y = 2, x = 2 - 0.25, P = 4 - 1',
+    ('new 1 [2.0] [4.0] [1.0] 1.0 1.0 0.0', '0'),
+    ('setkind 0 t 2.0', '0'),
+    ('openc 3', '0 3 2.0 4.0 0.0'),
+    ('closec 1 [8.0] [48.0] p p p p [2.0 6.0 6.0]', '0 x 1.75 P 3.0'),
 ]
 
 

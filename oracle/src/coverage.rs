@@ -54,7 +54,7 @@ const CORRECTION: [(u8, &str); 13] = [
     (9, "P"),
 ];
 
-/// The setters, each accepted on stale points and on points in use (which it marks stale, but for one of Q).
+/// The setters, each accepted and refused on stale points and on points in use.
 pub const SETTERS: [&str; 5] = ["setx", "setp", "setq", "setpar", "setkind"];
 
 /// The closes of a correction, each met with every n and m.
@@ -70,6 +70,11 @@ pub fn count_with(table: &Table, call: &str, number: u8, more: &str) -> u64 {
     table.iter().filter(|((c, n, m), _)| *c == call && *n == number && m == more).map(|(_, count)| count).sum()
 }
 
+/// How often a call was refused but by 3, on these points.
+pub fn refused_with(table: &Table, call: &str, points: &str) -> u64 {
+    table.iter().filter(|((c, n, m), _)| *c == call && ![0, 3].contains(n) && m == points).map(|(_, count)| count).sum()
+}
+
 /// What was not met.
 pub fn holes(table: &Table) -> Vec<String> {
     let mut holes = Vec::new();
@@ -80,9 +85,13 @@ pub fn holes(table: &Table) -> Vec<String> {
         let unmet = steps.iter().filter(|(number, step)| count_with(table, call, *number, step) == 0);
         holes.extend(unmet.map(|(number, step)| format!("{call}: {number} in {step}")));
     }
-    for call in SETTERS {
-        let unmet = [STALE, IN_USE].into_iter().filter(|points| count_with(table, call, 0, points) == 0);
-        holes.extend(unmet.map(|points| format!("{call} accepted, points {points}")));
+    for (call, points) in SETTERS.iter().flat_map(|call| [(call, STALE), (call, IN_USE)]) {
+        if count_with(table, call, 0, points) == 0 {
+            holes.push(format!("{call} accepted, points {points}"));
+        }
+        if refused_with(table, call, points) == 0 {
+            holes.push(format!("{call} refused, points {points}"));
+        }
     }
     for n in 1..=8 {
         if count_with(table, "closep", 0, &format!("n={n}")) == 0 {

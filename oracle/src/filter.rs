@@ -139,10 +139,11 @@ impl Filter {
         self.sized()
     }
 
-    /// Request A3: an accepted setting marks stale, but for one of Q. The setters of the published Rust don't.
+    /// Request A3: an accepted setting marks stale, but for one of Q. The setters of the published Rust don't, so it is led there by a
+    /// correction that corrects nothing; not where its points are stale already, since that would draw them.
     fn mark(&mut self) {
         if !self.stale {
-            self.rust_mut().mark_stale();
+            self.rust_mut().correct_nothing();
         }
         self.stale = true;
     }

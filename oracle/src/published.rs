@@ -60,8 +60,8 @@ pub trait Published {
     fn set_q(&mut self, q: &[f64]);
     fn set_params(&mut self, par: Params);
     fn set_kinds(&mut self, kinds: &[Kind]);
-    /// Marks points that are not stale as stale: by a correction that corrects nothing. The next one draws afresh (`refresh_sigma_points`).
-    fn mark_stale(&mut self);
+    /// A correction that corrects nothing: stale points are drawn afresh (`refresh_sigma_points`), and they are stale after it.
+    fn correct_nothing(&mut self);
     /// Predicts, with these as the propagated points; hands back the points that it drew.
     fn predict(&mut self, propagated: &[f64]) -> Vec<f64>;
     fn correct(&mut self, average: Average, with: &Measurement) -> Left;
@@ -239,12 +239,12 @@ impl<const N: usize, const COUNT: usize> Published for Held<N, COUNT> {
         }
     }
 
-    fn mark_stale(&mut self) {
+    fn correct_nothing(&mut self) {
         self.filter.correct_sigma_point_with(&mut Onlooker, |_: &Grid<N, COUNT>, _: &mut ()| {}, |_: &mut [f64]| {});
     }
 
     fn refreshed(mut self: Box<Self>) -> Drawn {
-        self.mark_stale();
+        self.correct_nothing();
         Drawn { points: self.points(), weights: Held::weights(&self) }
     }
 
@@ -265,7 +265,7 @@ impl<const N: usize, const COUNT: usize> Published for Held<N, COUNT> {
     }
 }
 
-/// A measurement that corrects nothing: the published filter redraws its points where they are stale, and marks them stale after it.
+/// A measurement that corrects nothing.
 struct Onlooker;
 
 impl<const N: usize, const COUNT: usize> KalmanFilterUnscentedObservationCorrectFilter<N, 1, COUNT, f64> for Onlooker {

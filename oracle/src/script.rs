@@ -10,13 +10,13 @@ use crate::steps::Params;
 pub const LINE: usize = 16_384;
 pub const LIST: u64 = 512;
 
-/// How often each call gave each number, and with it the stage or step that refused or, of an accepted close, the sizes, of an accepted setting, the points before it.
+/// How often each call gave each number, and with it the stage or step that refused or, of an accepted close, the sizes, of a setting, the points before it.
 pub type Table = BTreeMap<(&'static str, u8, String), u64>;
 
 /// What a `bad` line counts as.
 pub const BAD: u8 = 99;
 
-/// Points before an accepted setting.
+/// Points before a setting.
 pub const STALE: &str = "stale";
 pub const IN_USE: &str = "in use";
 
@@ -131,12 +131,10 @@ fn bare(call: &'static str, outcome: Result<(), Trouble>) -> Result<Told, String
     told(call, outcome, |number, _| number.to_string())
 }
 
-/// An answer to a setting; where it is accepted the table tells on what points.
+/// An answer to a setting; the table tells on what points.
 fn set(call: &'static str, filter: &mut Filter, setting: impl FnOnce(&mut Filter) -> Result<(), Trouble>) -> Result<Told, String> {
     let before = if filter.stale { STALE } else { IN_USE };
-    let told = bare(call, setting(filter))?;
-    let more = if told.number == 0 { before.into() } else { told.more };
-    Ok(Told { more, ..told })
+    Ok(Told { more: before.into(), ..bare(call, setting(filter))? })
 }
 
 fn told<A>(call: &'static str, outcome: Result<A, Trouble>, text: impl FnOnce(u8, Option<A>) -> String) -> Result<Told, String> {

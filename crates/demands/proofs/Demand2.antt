@@ -8,7 +8,7 @@ use native.Mathlib.Nat.{mul-le-mul}
 use native.Mathlib.Omega.{arith}
 use lib.Dec.{T}
 use lib.IntN.{pos}
-use lib.ListN.{getD}
+use lib.ListN.{getD, take}
 use lib.Ieee.{Float, nan, Format, binary64, fits, add, sub, mul, div, ofInt}
 use lib.Ieee.Scale.{finite}
 use Rattle.floats.specs.Refusal.{Refusal, PIVOT, accepted}
@@ -33,26 +33,31 @@ use Rattle.matrix.specs.Inverse.{unitAt, forwardOf, inverseOf}
 use Rattle.matrix.specs.Product.{transbOf}
 use Rattle.matrix.proofs.Cells.{total-same, placed, plus-placed, minus-placed, transb-filled, inverse-filled}
 use Rattle.matrix.proofs.Flat.{row-before}
+use Rattle.matrix.proofs.Results.{work-accepted}
 use Rattle.matrix.proofs.FactorLaws.{is-factor}
 use Rattle.matrix.proofs.InverseLaws.{forward-at, inverse-at}
 use Rattle.sigma.specs.declared.Params.{Params}
-use Rattle.sigma.specs.Weights.{w0mOf, w0cOf, wiOf, weightsOf}
+use Rattle.sigma.specs.Weights.{scaleOf, w0mOf, w0cOf, wiOf, weightsOf}
 use Rattle.sigma.specs.Draw.{pointNumbers, pointsOf, drawPlan}
 use Rattle.sigma.specs.Mean.{meanOf}
 use Rattle.sigma.specs.Spread.{deviationAt, deviationsOf, spreadOf}
 use Rattle.sigma.specs.Predict.{Moment, predictPlan}
+use Rattle.sigma.proofs.Accepted.{next}
 use Rattle.sigma.proofs.Entries.{weight-first, weight-other, point-first, point-plus, point-minus, drawn-filled, mean-placed, deviations-filled, spread-filled}
 use Rattle.correction.specs.Leaves.{innovationAt, innovationOf, shiftedAt, shiftedOf, widened, noKinds}
 use Rattle.correction.specs.Correct.{Head, applyPlan, Given, given, dzOf, weightedHead}
 use Rattle.correction.specs.Flat.{flatSpreadOf, flatHead}
 use Rattle.correction.proofs.Entries.{flat-mean-placed, spread-entry, flat-entry, through-plain}
 use Rattle.filter.specs.declared.Filter.{Filter}
-use Rattle.filter.specs.Filters.{closedWith}
-use Rattle.filter.specs.Calls.{closing, close-prediction, close-correction, close-correction-flat, weightedFrom, flatFrom}
+use Rattle.filter.specs.declared.Stage.{Stage}
+use Rattle.filter.specs.declared.Stage.the-variants.{Predicting, Correcting}
+use Rattle.filter.specs.declared.Weighted.{Weighted}
+use Rattle.filter.specs.Filters.{withDrawn, closedWith}
+use Rattle.filter.specs.Calls.{SetCall, setting, closing, open-prediction, open-correction, close-prediction, close-correction, close-correction-flat, weightedFrom, flatFrom}
 use Rattle.filter.specs.Steps.{step}
 use Rattle.demands.specs.Listed.{innovation, state, covariance}
 use Rattle.demands.proofs.Passed.{ran-made}
-use Rattle.demands.proofs.Closed.{prediction-closed, correction-closed, flat-correction-closed}
+use Rattle.demands.proofs.Accepted.{prediction-opened, correction-opened-afresh, correction-opened, prediction-closed, correction-closed, flat-correction-closed}
 
 abbrev at : List Float → ℕ → Float
 at l i = getD l i nan
@@ -113,6 +118,10 @@ module _ (f : Format) where
   -- accepted, it has made the points of the factor of P and the root of N
   pub draw-makes : (n : ℕ) (x p : List Float) (scale : Float) (v : List Float) → run (drawPlan f n x p scale) ≡ accepted v → v ≡ pointsOf f n x (product (factorOf f PIVOT p n)) (rootOf f scale)
   draw-makes n x p scale v e = ran-made (drawPlan f n x p scale) v e
+
+  -- and that factor was accepted, so that the laws of the factor hold of it
+  pub draw-factors : (n : ℕ) (x p : List Float) (scale : Float) (v : List Float) → run (drawPlan f n x p scale) ≡ accepted v → worked (factorOf f PIVOT p n) ≡ accepted (product (factorOf f PIVOT p n))
+  draw-factors n x p scale v e = let t = next _ _ v e in t .1 ∙ ap accepted (work-accepted (factorOf f PIVOT p n) (t .0) .0 (t .1) .1)
 
   -- point 0 is x, point j+1 is x[i] + s·L[i][j], point j+1+n is x[i] − s·L[i][j]
   module _ (n : ℕ) (x l : List Float) (s : Float) (h : n ≤ 8) (i : ℕ) (g : i < n) where
@@ -276,6 +285,25 @@ module _ (f : Format) where
 
     pub flat-correction-from : flatFrom f s m z r observed ≡ flatHead f (s .n) m (s .x) (s .p) (s .«drawn_points») of-observed of-z of-r
     flat-correction-from = refl
+
+  -- An accepted open leaves the filter as it was, with what it has drawn beside it (`withDrawn` of filter/specs/Filters.antt), and hands out those points:
+  module _ (s : Filter) (b : List Float) where
+    abbrev Opens : SetCall → Stage → Weighted → Type 0
+    Opens c t d = step f s (setting c) ≡ record { filter = withDrawn s t d; reply = record { refusal = 0; given = take (pointNumbers (s .n)) (d .points); stale = true } }
+
+    -- a prediction, and a correction while stale, the points v that the draw from x and P gives, with the weights of the parameters;
+    abbrev Draws : SetCall → Stage → Type 0
+    Draws c t = (v : List Float) × (run (drawPlan f (s .n) (s .x) (s .p) (scaleOf f (s .n) (s .params))) ≡ accepted v) × Opens c t (record { weights = weightsOf f (s .n) (s .params); points = v })
+
+    pub prediction-opens : step f s (setting (open-prediction b)) .reply .refusal ≡ 0 → Draws (open-prediction b) Predicting
+    prediction-opens = prediction-opened f s b
+
+    pub stale-correction-opens : s .stale ≡ true → step f s (setting (open-correction b)) .reply .refusal ≡ 0 → Draws (open-correction b) Correcting
+    stale-correction-opens = correction-opened-afresh f s b
+
+    -- a correction while not stale the current ones.
+    pub correction-opens : s .stale ≡ false → step f s (setting (open-correction b)) .reply .refusal ≡ 0 → Opens (open-correction b) Correcting (record { weights = s .weights; points = s .points })
+    correction-opens = correction-opened f s b
 
   -- An accepted close sets x and P to what its steps have made, installs points and the opened weights, sets the mark, and leaves nothing open and scratch at +0 (`closedWith` of filter/specs/Filters.antt):
   -- a prediction the propagated points, and it is not stale;

@@ -5,12 +5,13 @@ use mathlib.Core.Bool.{Bool, true, false, cond}
 use mathlib.Core.List.{List, [], _∷_}
 use native.Mathlib.Nat.{mul-le-mul}
 use native.Mathlib.Omega.{arith}
-use borrow.Author.Tests.{leb-true}
+use borrow.Author.Tests.{leb-true, not-true}
 use lib.Dec.{leb, eqb}
 use lib.ListN.{length, set, getD, length-set}
 use lib.Seq.{getD-set-other}
 use lib.Ieee.{Float, Format}
 use lib.Ieee.Scale.{finite}
+use Rattle.floats.specs.Refusal.{accepted}
 use Rattle.floats.specs.Numbers.{zeros, allFinite, aboveZero}
 use Rattle.floats.specs.Fronts.{front}
 use Rattle.floats.proofs.Finite.{all-zeros}
@@ -18,19 +19,20 @@ use Rattle.angles.specs.Kinds.{plain}
 use Rattle.matrix.specs.Results.{mapped}
 use Rattle.sigma.specs.declared.Params.{Params}
 use Rattle.sigma.specs.Weights.{scaleOf, w0mOf, w0cOf, wiOf, weightAt, weightsOf, weightsPass}
-use Rattle.sigma.specs.Draw.{pointNumbers}
+use Rattle.sigma.specs.Draw.{pointNumbers, drawOf}
 use Rattle.sigma.specs.Predict.{Moment}
 use Rattle.sigma.proofs.Entries.{weights-placed}
 use Rattle.sigma.proofs.Accepted.{placed-in-use, MomentInUse, draw-accepted, predict-accepted}
 use Rattle.correction.specs.Correct.{Head, applyPlan}
 use Rattle.correction.proofs.Accepted.{apply-accepted}
 use Rattle.filter.specs.declared.Filter.{Filter}
+use Rattle.filter.specs.declared.Stage.the-variants.{Predicting, Correcting}
 use Rattle.filter.specs.declared.Weighted.{Weighted}
 use Rattle.filter.specs.Asked.{fit, by-params, by-kind, inRange, every}
-use Rattle.filter.specs.Filters.{isShut, seen, Setting, x-set, p-set, q-set, params-set, kinds-set, opened-prediction, opened-correction, Closing, Change, sets, closes, abandons, reads, close}
+use Rattle.filter.specs.Filters.{isShut, seen, Setting, x-set, p-set, q-set, params-set, kinds-set, opened-prediction, opened-correction, Closing, Change, sets, closes, abandons, reads, withDrawn}
 use Rattle.filter.specs.Calls.{set-x, set-p, set-q, set-params, set-kind, open-prediction, open-correction, close-prediction, close-correction, close-correction-flat, read-x, read-p, read-q, read-points, read-params, read-stale, Call, setting, closing, abandon, reading, inKinds, asKinds, asks, Done, opened, closed, draws, plan, weightedFrom, flatFrom}
 use Rattle.filter.proofs.Closing.{predicting-open, correcting-open, predicting}
-use Rattle.demands.specs.Sound.{Filled, Laid, Predicted, Sound}
+use Rattle.demands.specs.Sound.{Filled, Laid, DrawnFrom, Sound}
 use Rattle.demands.proofs.Rows.{two-ways}
 use Rattle.demands.proofs.Passed.{both, Passed, Ran, ran-finish, ran-either, ran-mapped}
 use Rattle.demands.proofs.Listed.{drawing}
@@ -43,17 +45,17 @@ module _ (f : Format) (s : Filter) where
   FineSetting (x-set v) = Filled (s .n) 8 v
   FineSetting (p-set v) = Filled (s .n * s .n) 64 v
   FineSetting (q-set v) = Filled (s .n * s .n) 64 v
-  -- with nothing open, since drawn weights are those of the parameters
-  FineSetting (params-set v) = (allFinite (v .alpha ∷ v .beta ∷ v .kappa ∷ []) ≡ true) × (weightsPass f (s .n) v ≡ true) × (isShut (s .stage) ≡ true)
+  FineSetting (params-set v) = (allFinite (v .alpha ∷ v .beta ∷ v .kappa ∷ []) ≡ true) × (weightsPass f (s .n) v ≡ true)
   FineSetting (kinds-set v) = (allFinite (inKinds v) ≡ true) × (every (fit f) (asKinds v) ≡ true) × (length v ≡ 8) × ((i : ℕ) → s .n ≤ i → getD v i plain ≡ plain)
-  FineSetting (opened-prediction d) = Laid f (s .n) (s .params) d
-  FineSetting (opened-correction d) = Laid f (s .n) (s .params) d
+  FineSetting (opened-prediction d) = Laid f (s .n) (s .params) d × DrawnFrom f (withDrawn s Predicting d)
+  FineSetting (opened-correction d) = Laid f (s .n) (s .params) d × DrawnFrom f (withDrawn s Correcting d)
 
   abbrev pub FineClosing : Closing → Type 0
-  FineClosing c = Filled (s .n) 8 (c .x) × Filled (s .n * s .n) 64 (c .p) × Laid f (s .n) (s .params) (c .installed) × (c .stale ≡ false → Predicted f (close s c))
+  FineClosing c = Filled (s .n) 8 (c .x) × Filled (s .n * s .n) 64 (c .p) × Laid f (s .n) (s .params) (c .installed)
 
+  -- a setting is made with nothing open: what is drawn belongs to x, P and the parameters
   abbrev pub Fine : Change → Type 0
-  Fine (sets c) = FineSetting c
+  Fine (sets c) = FineSetting c × (isShut (s .stage) ≡ true)
   Fine (closes c) = FineClosing c
   Fine abandons = Unit {0}
   Fine reads = Unit {0}
@@ -107,12 +109,12 @@ moment-filled u = (in-use-filled (u .x-in-use), in-use-filled (u .p-in-use))
 
 module _ (f : Format) (s : Filter) (o : Sound f s) where
   -- with nothing open the weights and points drawn, or the current ones, are laid out
-  drawn-fine : (to : Weighted → Setting) → ((w : Weighted) → Laid f (s .n) (s .params) w → FineSetting f s (to w)) → 1 ≤ s .n
+  drawn-fine : (to : Weighted → Setting) → ((w : Weighted) → Laid f (s .n) (s .params) w → drawOf f (s .n) (s .x) (s .p) (scaleOf f (s .n) (s .params)) ≡ accepted (w .points) → FineSetting f s (to w)) → 1 ≤ s .n → isShut (s .stage) ≡ true
       → Ran (draws f to (seen s)) (λ (d : Done). FineDone f s d)
-  drawn-fine to fine h =
+  drawn-fine to fine h t =
       ran-mapped _ (opened to (s .n) (weightsOf f (s .n) (s .params))) (drawing f (seen s)) (λ points e.
       let a = in-use-filled (draw-accepted f (s .n) (s .x) (s .p) (scaleOf f (s .n) (s .params)) points (o .small) e) in
-      record { change = fine _ (laid-weights f (s .n) (s .params) (o .passed h) (o .small) points a); given = a .bounded })
+      record { change = (fine _ (laid-weights f (s .n) (s .params) (o .passed h) (o .small) points a) e, t); given = a .bounded })
 
   open-weighted : isShut (s .stage) ≡ false → (points : List Float) → Filled (pointNumbers (s .n)) 136 points → Laid f (s .n) (s .params) (record { weights = seen s .«drawn_weights»; points = points })
   open-weighted h points a = rw h (record { weights-of = o .drawn h .weights-of; weights = o .drawn h .weights; points = a })
@@ -123,37 +125,37 @@ module _ (f : Format) (s : Filter) (o : Sound f s) where
   corrected-fine t h e =
       ran-mapped _ (closed (seen s .«drawn_weights») (seen s .«drawn_points») true) (applyPlan f h) (λ q r.
       let a : Filled (s .n) 8 (q .x) × Filled (s .n * s .n) 64 (q .p) = rw (← e) (moment-filled (apply-accepted f h q (rw e (o .small)) r)) in
-      record { change = (a .0, a .1, open-weighted t (seen s .«drawn_points») (rw t (o .drawn t .points)), λ z. absurd (two-ways refl z)); given = refl })
+      record { change = (a .0, a .1, open-weighted t (seen s .«drawn_points») (rw t (o .drawn t .points))); given = refl })
 
   pub fine : (c : Call) → Passed f (asks (seen s) c) → Ran (plan f (seen s) c) (λ (d : Done). FineDone f s d)
   unfolding allFinite
   fine (setting (set-x v)) h =
-      ran-finish _ _ (record { change = filled-front (s .n) 8 v (leb-true _ _ (h .lent .0)) (in-range 1 8 (s .n) (h .sizes .0) .1) (h .inputs); given = refl })
+      ran-finish _ _ (record { change = (filled-front (s .n) 8 v (leb-true _ _ (h .lent .0)) (in-range 1 8 (s .n) (h .sizes .0) .1) (h .inputs), h .fits); given = refl })
   fine (setting (set-p v)) h =
-      ran-finish _ _ (record { change = filled-front (s .n * s .n) 64 v (leb-true _ _ (h .lent .0)) (square-room (s .n) (in-range 1 8 (s .n) (h .sizes .0) .1)) (h .inputs); given = refl })
+      ran-finish _ _ (record { change = (filled-front (s .n * s .n) 64 v (leb-true _ _ (h .lent .0)) (square-room (s .n) (in-range 1 8 (s .n) (h .sizes .0) .1)) (h .inputs), h .fits); given = refl })
   fine (setting (set-q v)) h =
-      ran-finish _ _ (record { change = filled-front (s .n * s .n) 64 v (leb-true _ _ (h .lent .0)) (square-room (s .n) (in-range 1 8 (s .n) (h .sizes .0) .1)) (h .inputs); given = refl })
-  fine (setting (set-params p)) h = ran-finish _ _ (record { change = (h .inputs, both {a = fit f (by-params (s .n) p)} (h .params) .0, h .fits); given = refl })
+      ran-finish _ _ (record { change = (filled-front (s .n * s .n) 64 v (leb-true _ _ (h .lent .0)) (square-room (s .n) (in-range 1 8 (s .n) (h .sizes .0) .1)) (h .inputs), h .fits); given = refl })
+  fine (setting (set-params p)) h = ran-finish _ _ (record { change = ((h .inputs, both {a = fit f (by-params (s .n) p)} (h .params) .0), h .fits); given = refl })
   fine (setting (set-kind i k)) h =
       ran-finish _ _ (record {
-        change = (kinds-finite k (s .kinds) i (o .kinds) (h .inputs), kinds-fit k f (s .kinds) i (o .turns) (both {a = fit f (by-kind k)} (h .params) .0), length-set (s .kinds) i k ∙ o .eight, past);
+        change = ((kinds-finite k (s .kinds) i (o .kinds) (h .inputs), kinds-fit k f (s .kinds) i (o .turns) (both {a = fit f (by-kind k)} (h .params) .0), length-set (s .kinds) i k ∙ o .eight, past), h .fits);
         given = refl;
       })
     where
       -- the index is a state's
       past : (j : ℕ) → s .n ≤ j → getD (set (s .kinds) i k) j plain ≡ plain
       past j l = getD-set-other (s .kinds) i j k plain (λ e. absurd (omega (arith, in-range 1 8 (s .n) (h .sizes .0), in-range 0 (s .n - 1) i (h .sizes .1 .0)))) ∙ o .past j l
-  fine (setting (open-prediction b)) h = drawn-fine opened-prediction (λ w a. a) (in-range 1 8 (s .n) (h .sizes .0) .0)
+  fine (setting (open-prediction b)) h = drawn-fine opened-prediction (λ w a e. (a, record { current = λ k. absurd (two-ways k refl); afresh = λ k. e })) (in-range 1 8 (s .n) (h .sizes .0) .0) (h .fits)
   fine (setting (open-correction b)) h =
       ran-either _ (s .stale) _ _
-      (λ t. drawn-fine opened-correction (λ w a. a) (in-range 1 8 (s .n) (h .sizes .0) .0))
-      (λ t. ran-finish _ _ (rw t (record { change = o .current t; given = o .current t .points .bounded })))
+      (λ t. drawn-fine opened-correction (λ w a e. (a, record { current = λ k. absurd (two-ways t (not-true (s .stale) k)); afresh = λ k. e })) (in-range 1 8 (s .n) (h .sizes .0) .0) (h .fits))
+      (λ t. ran-finish _ _ (rw t (record { change = ((o .current t, record { current = λ k. refl; afresh = λ k. absurd (two-ways refl k) }), h .fits); given = o .current t .points .bounded })))
   fine (closing (close-prediction v)) h =
       let points = front (pointNumbers (s .n)) v (zeros 136) in
       ran-mapped _ (closed (seen s .«drawn_weights») points false) (predicting f (seen s) v) (λ m e.
       let a = moment-filled (predict-accepted f (s .n) points (w0mOf f (s .n) (s .params)) (seen s .«drawn_weights») (s .kinds) (s .q) m (o .small) e) in
       let b = filled-front (pointNumbers (s .n)) 136 v (leb-true _ _ (h .lent .0)) (points-room (s .n) (in-range 1 8 (s .n) (h .sizes .0) .1)) (h .inputs) in
-      record { change = (a .0, a .1, open-weighted (predicting-open (s .stage) (h .fits)) points b, λ z. (s .q, e)); given = refl })
+      record { change = (a .0, a .1, open-weighted (predicting-open (s .stage) (h .fits)) points b); given = refl })
   fine (closing (close-correction m z r kinds observed)) h = corrected-fine (correcting-open (s .stage) (h .fits)) (weightedFrom f (seen s) m z r kinds observed) refl
   fine (closing (close-correction-flat m z r observed)) h = corrected-fine (correcting-open (s .stage) (h .fits)) (flatFrom f (seen s) m z r observed) refl
   fine abandon h = ran-finish _ _ (record { change = tt; given = refl })

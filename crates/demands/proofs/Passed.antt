@@ -93,6 +93,9 @@ ran-mapped {A} P g p h b e = go (run p) h (sym (run-mapped g p) ∙ e)
     go (refused r) i k = absurd (refused-never k)
     go (accepted a) i k = let s : g a ≡ b = cc in rw (← s) (i a refl)
 
+pub mapped-ran : {A B : Type 0} (g : A → B) (p : Plan A) → Ran (mapped g p) (λ (b : B). (a : A) × (run p ≡ accepted a) × (b ≡ g a))
+mapped-ran {A} g p = ran-mapped _ g p (λ a e. (a, e, refl))
+
 -- ---- what an accepted plan has made: each work's product, on to the end
 
 product-then : {A B : Type 0} (w : Work A) (k : A → Work B) → product (then w k) ≡ product (k (product w))

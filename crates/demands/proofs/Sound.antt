@@ -24,7 +24,7 @@ use Rattle.demands.specs.Sound.{Filled, Sound, Tidy, Reached, made, furt
 use Rattle.demands.proofs.Rows.{two-ways}
 use Rattle.demands.proofs.Passed.{both, by-cases, run-cases}
 use Rattle.demands.proofs.Arrays.{all-both, all-parts, filled-front, filled-zeros, filled-all, plain-past}
-use Rattle.demands.proofs.Fine.{FineSetting, Fine, FineDone, in-range, square-room, fine}
+use Rattle.demands.proofs.Fine.{Fine, FineDone, in-range, square-room, fine}
 
 module _ (f : Format) where
   -- ---- New
@@ -45,7 +45,7 @@ module _ (f : Format) where
     past = λ i l. plain-past 8 i;
     current = λ e. absurd (two-ways refl e);
     drawn = λ e. absurd (two-ways refl e);
-    predicted = λ e. absurd (two-ways refl e);
+    drawn-from = λ e. absurd (two-ways refl e);
   }
 
   empty-sound : Sound f empty
@@ -77,19 +77,19 @@ module _ (f : Format) where
 
   -- ---- changes
 
-  set-sound : (s : Filter) (c : Setting) → Sound f s → FineSetting f s c → Sound f (set s c)
-  set-sound s (x-set v) o g = record { small = o .small; x = g; p = o .p; q = o .q; params = o .params; passed = o .passed; kinds = o .kinds; turns = o .turns; eight = o .eight; past = o .past; current = λ e. absurd (two-ways refl e); drawn = o .drawn; predicted = λ e. absurd (two-ways refl e) }
-  set-sound s (p-set v) o g = record { small = o .small; x = o .x; p = g; q = o .q; params = o .params; passed = o .passed; kinds = o .kinds; turns = o .turns; eight = o .eight; past = o .past; current = λ e. absurd (two-ways refl e); drawn = o .drawn; predicted = λ e. absurd (two-ways refl e) }
-  set-sound s (q-set v) o g = record { small = o .small; x = o .x; p = o .p; q = g; params = o .params; passed = o .passed; kinds = o .kinds; turns = o .turns; eight = o .eight; past = o .past; current = o .current; drawn = o .drawn; predicted = o .predicted }
-  set-sound s (params-set v) o g = record { small = o .small; x = o .x; p = o .p; q = o .q; params = g .0; passed = λ e. g .1; kinds = o .kinds; turns = o .turns; eight = o .eight; past = o .past; current = λ e. absurd (two-ways refl e); drawn = λ e. absurd (two-ways (g .2) e); predicted = λ e. absurd (two-ways refl e) }
-  set-sound s (kinds-set v) o g = record { small = o .small; x = o .x; p = o .p; q = o .q; params = o .params; passed = o .passed; kinds = g .0; turns = g .1; eight = g .2; past = g .3; current = λ e. absurd (two-ways refl e); drawn = o .drawn; predicted = λ e. absurd (two-ways refl e) }
-  set-sound s (opened-prediction d) o g = record { small = o .small; x = o .x; p = o .p; q = o .q; params = o .params; passed = o .passed; kinds = o .kinds; turns = o .turns; eight = o .eight; past = o .past; current = o .current; drawn = λ e. g; predicted = o .predicted }
-  set-sound s (opened-correction d) o g = record { small = o .small; x = o .x; p = o .p; q = o .q; params = o .params; passed = o .passed; kinds = o .kinds; turns = o .turns; eight = o .eight; past = o .past; current = o .current; drawn = λ e. g; predicted = o .predicted }
+  set-sound : (s : Filter) (c : Setting) → Sound f s → Fine f s (sets c) → Sound f (set s c)
+  set-sound s (x-set v) o g = record { small = o .small; x = g .0; p = o .p; q = o .q; params = o .params; passed = o .passed; kinds = o .kinds; turns = o .turns; eight = o .eight; past = o .past; current = λ e. absurd (two-ways refl e); drawn = λ e. absurd (two-ways (g .1) e); drawn-from = λ e. absurd (two-ways (g .1) e) }
+  set-sound s (p-set v) o g = record { small = o .small; x = o .x; p = g .0; q = o .q; params = o .params; passed = o .passed; kinds = o .kinds; turns = o .turns; eight = o .eight; past = o .past; current = λ e. absurd (two-ways refl e); drawn = λ e. absurd (two-ways (g .1) e); drawn-from = λ e. absurd (two-ways (g .1) e) }
+  set-sound s (q-set v) o g = record { small = o .small; x = o .x; p = o .p; q = g .0; params = o .params; passed = o .passed; kinds = o .kinds; turns = o .turns; eight = o .eight; past = o .past; current = o .current; drawn = λ e. absurd (two-ways (g .1) e); drawn-from = λ e. absurd (two-ways (g .1) e) }
+  set-sound s (params-set v) o g = record { small = o .small; x = o .x; p = o .p; q = o .q; params = g .0 .0; passed = λ e. g .0 .1; kinds = o .kinds; turns = o .turns; eight = o .eight; past = o .past; current = λ e. absurd (two-ways refl e); drawn = λ e. absurd (two-ways (g .1) e); drawn-from = λ e. absurd (two-ways (g .1) e) }
+  set-sound s (kinds-set v) o g = record { small = o .small; x = o .x; p = o .p; q = o .q; params = o .params; passed = o .passed; kinds = g .0 .0; turns = g .0 .1; eight = g .0 .2; past = g .0 .3; current = λ e. absurd (two-ways refl e); drawn = λ e. absurd (two-ways (g .1) e); drawn-from = λ e. absurd (two-ways (g .1) e) }
+  set-sound s (opened-prediction d) o g = record { small = o .small; x = o .x; p = o .p; q = o .q; params = o .params; passed = o .passed; kinds = o .kinds; turns = o .turns; eight = o .eight; past = o .past; current = o .current; drawn = λ e. g .0 .0; drawn-from = λ e. g .0 .1 }
+  set-sound s (opened-correction d) o g = record { small = o .small; x = o .x; p = o .p; q = o .q; params = o .params; passed = o .passed; kinds = o .kinds; turns = o .turns; eight = o .eight; past = o .past; current = o .current; drawn = λ e. g .0 .0; drawn-from = λ e. g .0 .1 }
 
   changed-sound : (s : Filter) (c : Change) → Sound f s → Fine f s c → Sound f (changed s c)
   changed-sound s (sets c) o g = set-sound s c o g
-  changed-sound s (closes c) o g = record { small = o .small; x = g .0; p = g .1; q = o .q; params = o .params; passed = o .passed; kinds = o .kinds; turns = o .turns; eight = o .eight; past = o .past; current = λ e. g .2; drawn = λ e. absurd (two-ways refl e); predicted = g .3 }
-  changed-sound s abandons o g = record { small = o .small; x = o .x; p = o .p; q = o .q; params = o .params; passed = o .passed; kinds = o .kinds; turns = o .turns; eight = o .eight; past = o .past; current = o .current; drawn = λ e. absurd (two-ways refl e); predicted = o .predicted }
+  changed-sound s (closes c) o g = record { small = o .small; x = g .0; p = g .1; q = o .q; params = o .params; passed = o .passed; kinds = o .kinds; turns = o .turns; eight = o .eight; past = o .past; current = λ e. g .2; drawn = λ e. absurd (two-ways refl e); drawn-from = λ e. absurd (two-ways refl e) }
+  changed-sound s abandons o g = record { small = o .small; x = o .x; p = o .p; q = o .q; params = o .params; passed = o .passed; kinds = o .kinds; turns = o .turns; eight = o .eight; past = o .past; current = o .current; drawn = λ e. absurd (two-ways refl e); drawn-from = λ e. absurd (two-ways refl e) }
   changed-sound s reads o g = o
 
   set-tidy : (s : Filter) (c : Setting) → Tidy s → Tidy (set s c)
@@ -140,7 +140,7 @@ module _ (f : Format) where
     past = rw (sym (a .n), sym (a .kinds)) (o .past);
     current = λ e. absurd (two-ways (a .stale₂) e);
     drawn = λ e. absurd (two-ways (ap isShut (a .shut₂)) e);
-    predicted = λ e. absurd (two-ways (a .stale₂) e);
+    drawn-from = λ e. absurd (two-ways (ap isShut (a .shut₂)) e);
   }
 
   pub sound : {s : Filter} → Yielded f s → Sound f s

@@ -20,7 +20,7 @@ use Rattle.sigma.specs.Weights.{lambdaOf, scaleOf, w0mOf, w0cOf, wiOf, weightsO
 use Rattle.sigma.specs.Mean.{meanOf}
 use Rattle.correction.specs.Correct.{Head, given, weightedHead}
 use Rattle.filter.specs.declared.Filter.{Filter}
-use Rattle.filter.specs.Calls.{Call, setting, closing, abandon, reading, set-x, set-p, set-q, set-params, set-kind, open-prediction, open-correction, close-prediction, close-correction, close-correction-flat, read-points, read-stale}
+use Rattle.filter.specs.Calls.{Call, setting, closing, abandon, reading, set-x, set-p, set-q, set-params, set-kind, open-prediction, open-correction, close-prediction, close-correction, close-correction-flat, read-q, read-points, read-stale}
 use Rattle.filter.specs.New.{newAnswer}
 use Rattle.demands.specs.Listed.{gain}
 use Rattle.demands.specs.Runs.{Told, told}
@@ -135,7 +135,7 @@ flatStory =
     ∷ ("A1 abandoned", (abandon, telling 0 [] (int 3) (int 4) true))
     ∷ []
 
--- A3 through the calls, on the same filter. Propagated 2, 11/4, 5/4 the points have the mean 2, and P = 9/16 + Q. The same x set again marks stale, so the next open draws afresh, by the root 5/4 of P. After another such prediction neither Q nor a refusal by 6 marks, and the points stand.
+-- A3 through the calls, on the same filter. Propagated 2, 11/4, 5/4 the points have the mean 2, and P = 9/16 + Q. The same x set again marks stale, so the next open draws afresh, by the root 5/4 of P. After another such prediction neither Q marks nor a setting refused by 6, and the points stand.
 -- Then alpha = 2, so that N = 4, w0m = 3/4, w0c = −9/4 and wi = 1/8: points 2, 2 + 2·5/4, 2 − 2·5/4. Observed 2, 6, 2 have the mean 2 + 4/8; S = −9/4·1/4 + (49/4 + 1/4)/8 + 3 = 4, C = (5/2·7/2 + 5/2·1/2)/8 = 5/4, K = 5/16, y = 13/2 − 5/2, so x = 2 + 5/4 and P = 25/16 − 25/64.
 -- (By the old points with the old weights 0, 1/2, 1/2 and the new w0m, as document 01 had it, x would be 89/37.)
 abbrev pub settingStory : List (String × (Call × Told))
@@ -148,12 +148,13 @@ settingStory =
     ∷ ("A3 predicted again", (setting (open-prediction three), telling 0 (int 2 ∷ frac 13 4 ∷ frac 3 4 ∷ []) (int 2) (frac 25 16) true))
     ∷ ("A3 not stale", (closing (close-prediction (int 2 ∷ frac 11 4 ∷ frac 5 4 ∷ [])), telling 0 [] (int 2) (frac 25 16) false))
     ∷ ("A3 Q marks not", (setting (set-q (int 9 ∷ [])), telling 0 [] (int 2) (frac 25 16) false))
+    ∷ ("A3 Q is set", (reading (read-q three), telling 0 (int 9 ∷ []) (int 2) (frac 25 16) false))
     ∷ ("A3 a refusal marks not", (setting (set-params c4), telling 6 [] (int 2) (frac 25 16) false))
     ∷ ("A3 points stand", (reading (read-points three), telling 0 (int 2 ∷ frac 11 4 ∷ frac 5 4 ∷ []) (int 2) (frac 25 16) false))
     ∷ ("A3 alpha marks", (setting (set-params (params (int 2) (int 0) (int 0))), telling 0 [] (int 2) (frac 25 16) true))
     ∷ ("A3 points not read", (reading (read-points three), telling 4 [] (int 2) (frac 25 16) true))
     ∷ ("A3 drawn by the new alpha", (setting (open-correction three), telling 0 (int 2 ∷ frac 9 2 ∷ neg (frac 1 2) ∷ []) (int 2) (frac 25 16) true))
-    ∷ ("A3 corrected by one setting", (measuringBy (int 3) (frac 13 2) (int 2 ∷ int 6 ∷ int 2 ∷ []), telling 0 [] (frac 13 4) (frac 75 64) true))
+    ∷ ("A3 corrected by the new alpha", (measuringBy (int 3) (frac 13 2) (int 2 ∷ int 6 ∷ int 2 ∷ []), telling 0 [] (frac 13 4) (frac 75 64) true))
     ∷ []
 
 abbrev pub agrees : Told → Told → Bool

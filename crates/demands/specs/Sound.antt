@@ -1,7 +1,7 @@
 -- What holds of every filter that the demands speak of, and the numbers that are handed out. Definitions only.
 use Prim.Native.Nat.{ℕ, _+_, _-_, _*_, _≤_}
 use mathlib.Core.Path.{_≡_}
-use mathlib.Core.Bool.{true, false}
+use mathlib.Core.Bool.{true, false, not, _&&_}
 use mathlib.Core.List.{List, [], _∷_, _++_}
 use lib.ListN.{length, take, drop, getD}
 use lib.Ieee.{Float, Format}
@@ -9,13 +9,12 @@ use Rattle.floats.specs.Refusal.{accepted}
 use Rattle.floats.specs.Numbers.{zeros, allFinite}
 use Rattle.angles.specs.Kinds.{plain}
 use Rattle.sigma.specs.declared.Params.{Params}
-use Rattle.sigma.specs.Weights.{w0mOf, weightsOf, weightsPass}
-use Rattle.sigma.specs.Draw.{pointNumbers}
-use Rattle.sigma.specs.Predict.{predictOf}
+use Rattle.sigma.specs.Weights.{scaleOf, weightsOf, weightsPass}
+use Rattle.sigma.specs.Draw.{pointNumbers, drawOf}
 use Rattle.filter.specs.declared.Filter.{Filter}
 use Rattle.filter.specs.declared.Weighted.{Weighted}
 use Rattle.filter.specs.Asked.{fit, every}
-use Rattle.filter.specs.Filters.{isShut}
+use Rattle.filter.specs.Filters.{isShut, isCorrecting}
 use Rattle.filter.specs.Calls.{Call, inKinds, asKinds}
 use Rattle.filter.specs.Steps.{step}
 use Rattle.filter.specs.New.{newAnswer}
@@ -27,23 +26,24 @@ pub record Filled (k m : ℕ) (l : List Float) : Type 0 where
   pub bounded : allFinite (take k l) ≡ true
   pub unused : drop k l ≡ zeros (m - k)
 
--- points and weights that count: 2n+1 finite points, and as many finite weights, those of the parameters p
+-- points and weights that count: 2n+1 finite points, and as many finite weights, which are those of the parameters p
 pub record Laid (f : Format) (n : ℕ) (p : Params) (w : Weighted) : Type 0 where
   pub weights-of : w .weights ≡ weightsOf f n p
   pub weights : Filled (n + n + 1) 17 (w .weights)
   pub points : Filled (pointNumbers n) 136 (w .points)
 
--- x and P are what a prediction makes of the current points by the weights, parameters and kinds as they stand, with some Q
-abbrev pub Predicted : Format → Filter → Type 0
-Predicted f s = (q : List Float) × (predictOf f (s .n) (s .points) (w0mOf f (s .n) (s .params)) (s .weights) (s .kinds) q ≡ accepted (record { x = s .x; p = s .p }))
+-- the points that an open call has drawn: a correction on points that aren't stale has those; every other open call has those that the draw from x and P gives, by the parameters
+pub record DrawnFrom (f : Format) (s : Filter) : Type 0 where
+  pub current : (isCorrecting (s .stage) && not (s .stale)) ≡ true → s .«drawn_points» ≡ s .points
+  pub afresh : (isCorrecting (s .stage) && not (s .stale)) ≡ false → drawOf f (s .n) (s .x) (s .p) (scaleOf f (s .n) (s .params)) ≡ accepted (s .«drawn_points»)
 
--- THE INVARIANT. The empty filter has n = 0, and passes 6 for no number of states.
+-- THE INVARIANT
 pub record Sound (f : Format) (s : Filter) : Type 0 where
   pub small : s .n ≤ 8
   pub x : Filled (s .n) 8 (s .x)
   pub p : Filled (s .n * s .n) 64 (s .p)
   pub q : Filled (s .n * s .n) 64 (s .q)
-  -- stored parameters and kinds have passed 5 and 6
+  -- stored parameters and kinds have passed 5 and 6; those of the empty filter, where n = 0, pass 6 for no number of states
   pub params : allFinite (s .params .alpha ∷ s .params .beta ∷ s .params .kappa ∷ []) ≡ true
   pub passed : 1 ≤ s .n → weightsPass f (s .n) (s .params) ≡ true
   pub kinds : allFinite (inKinds (s .kinds)) ≡ true
@@ -51,11 +51,10 @@ pub record Sound (f : Format) (s : Filter) : Type 0 where
   pub eight : length (s .kinds) ≡ 8
   -- those past the states are plain
   pub past : (i : ℕ) → s .n ≤ i → getD (s .kinds) i plain ≡ plain
-  -- the current points and weights count while not stale, the drawn ones while a call is open; and they are those of the parameters as they stand
+  -- the current points and weights count while not stale, the drawn ones while a call is open
   pub current : s .stale ≡ false → Laid f (s .n) (s .params) (record { weights = s .weights; points = s .points })
   pub drawn : isShut (s .stage) ≡ false → Laid f (s .n) (s .params) (record { weights = s .«drawn_weights»; points = s .«drawn_points» })
-  -- while not stale nothing but Q has been set since the prediction
-  pub predicted : s .stale ≡ false → Predicted f s
+  pub drawn-from : isShut (s .stage) ≡ false → DrawnFrom f s
 
 -- beside it, of a filter that no one has put at will: points and weights are finite with +0 in unused places while stale too, and scratch is +0 while nothing is open
 pub record Tidy (s : Filter) : Type 0 where

@@ -1,4 +1,4 @@
-// Set x, P, Q, the parameters and a kind. None of them touches points or weights; each but that of Q marks them stale, so that the next correction draws afresh.
+// Set x, P, Q, the parameters and a kind. None of them touches points or weights; each but that of Q marks the filter stale.
 ghost use mathlib.Core.Path.{_≡_};
 ghost use lib.Ieee.{binary64};
 ghost use Rattle.filter.specs.Calls.{setting, set-x, set-p, set-q, set-params, set-kind};

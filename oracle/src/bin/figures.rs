@@ -5,7 +5,7 @@ use std::fs;
 use std::path::{Path, PathBuf};
 use std::process::ExitCode;
 
-use oracle::coverage::{count, count_with, holes, CORRECTIONS, NUMBERS, SETTERS, STEPS};
+use oracle::coverage::{count, count_with, holes, refused_with, CORRECTIONS, NUMBERS, SETTERS, STEPS};
 use oracle::script::{Reader, Table, BAD, IN_USE, STALE};
 
 const NAMES: [&str; 11] = ["accepted", "SIZE", "SHORT", "STAGE", "STALE", "NUMBER", "PARAM", "PIVOT", "INNOV", "RANGE", "KIND"];
@@ -117,9 +117,11 @@ impl Figures {
                 println!("{call:<10}{number}  {step:<18}{:>7}", count_with(&self.table, call, *number, step));
             }
         }
-        println!("\naccepted settings, points {STALE:>7}{IN_USE:>9}");
+        println!("\nsettings   accepted: {STALE:>7}{IN_USE:>9}    refused but by 3: {STALE:>7}{IN_USE:>9}");
         for call in SETTERS {
-            println!("{call:<25} {:>7}{:>9}", count_with(&self.table, call, 0, STALE), count_with(&self.table, call, 0, IN_USE));
+            let accepted = |points| count_with(&self.table, call, 0, points);
+            let refused = |points| refused_with(&self.table, call, points);
+            println!("{call:<20} {:>7}{:>9} {:>28}{:>9}", accepted(STALE), accepted(IN_USE), refused(STALE), refused(IN_USE));
         }
         println!("\naccepted closes       {}", (1..=8).map(|n| format!("{:>7}", format!("n={n}"))).collect::<String>());
         let line = |name: &str, cell: &dyn Fn(usize) -> u64| {

@@ -209,7 +209,7 @@ impl Maker {
         Ok(())
     }
 
-    /// Points drawn so far apart (`size`, squared beyond all doubles) that flat sums over them overflow; weights shrink with the distance. The root of N is alpha.
+    /// For the flat close: points drawn `size` from x, whose square overflows. (Weights shrink by as much.) The root of N is alpha.
     fn far_points(&mut self, size: f64) -> Made<()> {
         let n = self.n();
         let p = self.random.covariance(n, 1.0e50);
@@ -221,14 +221,14 @@ impl Maker {
     fn x_mean(&mut self, average: Average, m: usize) -> Made<()> {
         let n = self.n();
         match average {
-            // The weights add up to more than 1, rounded as they are, and x is the largest double.
+            // The weights add up to more than 1, rounded as they are, for about one alpha in four; and x is the largest double.
             Average::Weighted => {
                 let mut x = self.random.vector(n, 1.0);
                 let at = self.random.below(n);
                 x[at] = self.random.sign() * MAX;
                 self.set_x(&x)?;
                 let par = loop {
-                    let par = Params { alpha: self.random.within(1.0e-5, 1.0e-2), beta: 0.0, kappa: 0.0 };
+                    let par = Params { alpha: self.random.within(0.58, 0.7), beta: 0.0, kappa: 0.0 };
                     let weights = Weights::of(n, par);
                     if (0..2 * n).fold(weights.w0m, |sum, _| sum + weights.wi) > 1.0 {
                         break par;
@@ -259,8 +259,8 @@ impl Maker {
 
     fn cross_covariance(&mut self, average: Average, m: usize) -> Made<()> {
         let observed = match average {
-            // The centre weighs -1 and lies as far off as two opposite points, on one side of the mean for x and on the other for z:
-            // the squares all but cancel in P and in S, and the products add up.
+            // The centre weighs -1: its square takes most of those of two opposite points away, in P and in S.
+            // For z it lies on the other side, and there the products add up.
             Average::Weighted => {
                 let (n, sign) = (self.n(), self.random.sign());
                 self.say(format!("setpar{}", params(Params { alpha: 1.0, beta: -1.0, kappa: 0.0 })))?;
@@ -283,7 +283,7 @@ impl Maker {
         Ok(())
     }
 
-    /// P of this size and `seen` observed at two opposite points, with an R that takes all but 2^-50 of their spread away: S is that much too small.
+    /// P of this size and `seen` observed at two opposite points, with an R below 0 that leaves 2^-50 of their spread as S.
     fn nearly_no_noise(&mut self, m: usize, p: f64, seen: f64) -> Made<(Vec<f64>, Vec<f64>)> {
         let n = self.n();
         self.set_p(&diagonal(n, p))?;

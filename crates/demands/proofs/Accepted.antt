@@ -1,0 +1,122 @@
+-- What an accepted call leaves. A close: x and P as its steps have made them, the points and the opened weights installed, the stale mark, nothing open and scratch at +0. An open: what it has drawn, beside the filter as it was. A setting: its change. Assumes nothing.
+use Prim.Native.Nat.{ℕ}
+use mathlib.Core.Path.{_≡_, refl, sym, ap, _∙_}
+use mathlib.Core.Bool.{Bool, true, false, _||_}
+use mathlib.Core.List.{List, []}
+use native.Mathlib.Omega.{arith}
+use lib.Ieee.{Float, Format}
+use Rattle.floats.specs.Refusal.{Refusal, Outcome, refused, accepted}
+use Rattle.floats.proofs.Refusals.{number-above}
+use Rattle.angles.specs.declared.Kind.{Kind}
+use Rattle.matrix.specs.Results.{Plan, finish, run, mapped}
+use Rattle.sigma.specs.Predict.{Moment}
+use Rattle.sigma.specs.Weights.{weightsOf}
+use Rattle.correction.specs.Correct.{applyPlan}
+use Rattle.filter.specs.declared.Filter.{Filter}
+use Rattle.filter.specs.declared.Weighted.{Weighted}
+use Rattle.filter.specs.Filters.{seen, Setting, x-set, p-set, q-set, params-set, kinds-set, opened-prediction, opened-correction, sets, set, closedWith}
+use Rattle.filter.specs.Calls.{SetCall, set-x, set-p, set-q, set-params, set-kind, Call, setting, closing, open-prediction, open-correction, close-prediction, close-correction, close-correction-flat, asks, Done, done, opened, closed, draws, plan, weightedFrom, flatFrom}
+use Rattle.filter.specs.Steps.{Stepped, stepped, step}
+use Rattle.filter.proofs.Closing.{propagatedOf, predicting, predicting-is, correcting-is, correcting-flat-is}
+use Rattle.demands.specs.Listed.{state, covariance}
+use Rattle.demands.specs.Settings.{marks}
+use Rattle.demands.proofs.Passed.{by-cases, Ran, run-cases, ran-finish, ran-mapped, mapped-ran, made, ran-made}
+use Rattle.demands.proofs.Listed.{drawing}
+use Rattle.demands.proofs.Table.{taken-fits}
+use Rattle.demands.proofs.Leftover.{step-cases}
+
+module _ (f : Format) (s : Filter) where
+  -- a call that is taken: its plan is accepted, and it does what that has made
+  taken-ran : (c : Call) → step f s c .reply .refusal ≡ 0 → (d : Done) × (run (plan f (seen s) c) ≡ accepted d) × (step f s c ≡ stepped s (accepted d))
+  unfolding step
+  taken-ran c = by-cases P never f (asks (seen s) c) (run (plan f (seen s) c)) (λ p. run-cases (λ (d : Done). run (plan f (seen s) c) ≡ accepted d) P never (plan f (seen s) c) (λ d e. e) (λ d e z. (d, e, refl)))
+    where
+      P : Outcome Done → Type 0
+      P o = stepped s o .reply .refusal ≡ 0 → (d : Done) × (run (plan f (seen s) c) ≡ accepted d) × (stepped s o ≡ stepped s (accepted d))
+
+      never : (r : Refusal) → P (refused r)
+      never r e = absurd (omega (arith, number-above r))
+
+  -- the same where the plan is accepted with d alone
+  taken-step : (c : Call) (d : Done) → Ran (plan f (seen s) c) (λ (a : Done). a ≡ d) → step f s c .reply .refusal ≡ 0 → step f s c ≡ stepped s (accepted d)
+  taken-step c d h e = let t = taken-ran c e in t .2 ∙ ap (λ (x : Done). stepped s (accepted x)) (h (t .0) (t .1))
+
+  -- ---- closes
+
+  -- a close that installs the points v once its steps p are done
+  closed-as : (c : Call) (v : List Float) (stale : Bool) (p : Plan Moment) → plan f (seen s) c ≡ mapped (closed (s .«drawn_weights») v stale) p → step f s c .reply .refusal ≡ 0 → step f s c .filter ≡ closedWith s v stale (made p .x) (made p .p)
+  closed-as c v stale p is e =
+      let g = closed (s .«drawn_weights») v stale in
+      ap (λ (t : Stepped). t .filter) (taken-step c (g (made p)) (rw is (ran-mapped _ g p (λ a k. ap g (ran-made p a k)))) e)
+
+  pub prediction-closed : (v : List Float) → let c = closing (close-prediction v) in step f s c .reply .refusal ≡ 0
+      → step f s c .filter ≡ (let m = made (predicting f s v) in closedWith s (propagatedOf f s v) false (m .x) (m .p))
+  prediction-closed v e = let c = closing (close-prediction v) in closed-as c (propagatedOf f s v) false (predicting f s v) (predicting-is f s v (taken-fits f s c e)) e
+
+  -- a correction, weighted and flat
+  pub correction-closed : (m : ℕ) (z r : List Float) (kinds : List Kind) (observed : List Float) → let c = closing (close-correction m z r kinds observed) in step f s c .reply .refusal ≡ 0
+      → step f s c .filter ≡ (let h = weightedFrom f s m z r kinds observed in closedWith s (s .«drawn_points») true (state f h) (covariance f h))
+  correction-closed m z r kinds observed e =
+      let c = closing (close-correction m z r kinds observed) in
+      closed-as c (s .«drawn_points») true (applyPlan f (weightedFrom f s m z r kinds observed)) (correcting-is f s m z r kinds observed (taken-fits f s c e)) e
+
+  pub flat-correction-closed : (m : ℕ) (z r observed : List Float) → let c = closing (close-correction-flat m z r observed) in step f s c .reply .refusal ≡ 0
+      → step f s c .filter ≡ (let h = flatFrom f s m z r observed in closedWith s (s .«drawn_points») true (state f h) (covariance f h))
+  flat-correction-closed m z r observed e =
+      let c = closing (close-correction-flat m z r observed) in
+      closed-as c (s .«drawn_points») true (applyPlan f (flatFrom f s m z r observed)) (correcting-flat-is f s m z r observed (taken-fits f s c e)) e
+
+  -- ---- opens
+
+  -- with the points v drawn from x and P, and the weights of the parameters
+  abbrev pub DrawnBy : SetCall → (Weighted → Setting) → Type 0
+  DrawnBy c to = (v : List Float) × (run (drawing f s) ≡ accepted v) × (step f s (setting c) ≡ stepped s (accepted (opened to (s .n) (weightsOf f (s .n) (s .params)) v)))
+
+  drawn-so : (c : SetCall) (to : Weighted → Setting) → plan f (seen s) (setting c) ≡ draws f to (seen s) → step f s (setting c) .reply .refusal ≡ 0 → DrawnBy c to
+  drawn-so c to is e =
+      let t = taken-ran (setting c) e in
+      let v = mapped-ran (opened to (s .n) (weightsOf f (s .n) (s .params))) (drawing f s) (t .0) (ap run (sym is) ∙ t .1) in
+      (v .0, v .1, t .2 ∙ ap (λ (x : Done). stepped s (accepted x)) (v .2))
+
+  module _ (b : List Float) where
+    pub prediction-opened : step f s (setting (open-prediction b)) .reply .refusal ≡ 0 → DrawnBy (open-prediction b) opened-prediction
+    prediction-opened e = drawn-so (open-prediction b) opened-prediction refl e
+
+    pub correction-opened-afresh : s .stale ≡ true → step f s (setting (open-correction b)) .reply .refusal ≡ 0 → DrawnBy (open-correction b) opened-correction
+    correction-opened-afresh h e = drawn-so (open-correction b) opened-correction (rw h) e
+
+    -- with the current points and weights
+    pub correction-opened : s .stale ≡ false → step f s (setting (open-correction b)) .reply .refusal ≡ 0 → step f s (setting (open-correction b)) ≡ stepped s (accepted (opened opened-correction (s .n) (s .weights) (s .points)))
+    correction-opened h e = taken-step (setting (open-correction b)) (opened opened-correction (s .n) (s .weights) (s .points)) (rw h (ran-finish _ _ refl)) e
+
+  -- ---- settings
+
+  -- one that is taken has made its change
+  pub setting-taken : (c : SetCall) (u : Setting) → plan f (seen s) (setting c) ≡ finish (done (sets u) []) → step f s (setting c) .reply .refusal ≡ 0 → step f s (setting c) .filter ≡ set s u
+  setting-taken c u is e = ap (λ (t : Stepped). t .filter) (taken-step (setting c) (done (sets u) []) (rw is (ran-finish _ _ refl)) e)
+
+  pub setting-marked : (c : SetCall) → step f s (setting c) .reply .refusal ≡ 0 → step f s (setting c) .filter .stale ≡ (marks c || s .stale)
+  setting-marked (set-x v) e = ap (λ (t : Filter). t .stale) (setting-taken (set-x v) _ refl e)
+  setting-marked (set-p v) e = ap (λ (t : Filter). t .stale) (setting-taken (set-p v) _ refl e)
+  setting-marked (set-q v) e = ap (λ (t : Filter). t .stale) (setting-taken (set-q v) _ refl e)
+  setting-marked (set-params p) e = ap (λ (t : Filter). t .stale) (setting-taken (set-params p) _ refl e)
+  setting-marked (set-kind i k) e = ap (λ (t : Filter). t .stale) (setting-taken (set-kind i k) _ refl e)
+  setting-marked (open-prediction b) e = ap (λ (t : Stepped). t .filter .stale) (prediction-opened b e .2)
+  setting-marked (open-correction b) e = go (s .stale) refl
+    where
+      go : (t : Bool) → s .stale ≡ t → step f s (setting (open-correction b)) .filter .stale ≡ s .stale
+      go true h = ap (λ (t : Stepped). t .filter .stale) (correction-opened-afresh b h e .2)
+      go false h = ap (λ (t : Stepped). t .filter .stale) (correction-opened b h e)
+
+  -- points and weights stay, refused or not
+  pub setting-keeps : (c : SetCall) → (step f s (setting c) .filter .weights ≡ s .weights) × (step f s (setting c) .filter .points ≡ s .points)
+  setting-keeps c = step-cases f s (setting c) (λ t. (t .weights ≡ s .weights) × (t .points ≡ s .points)) (refl, refl) (λ d o g n. rw (o .1) (keeps (o .0)))
+    where
+      keeps : (u : Setting) → (set s u .weights ≡ s .weights) × (set s u .points ≡ s .points)
+      keeps (x-set v) = (refl, refl)
+      keeps (p-set v) = (refl, refl)
+      keeps (q-set v) = (refl, refl)
+      keeps (params-set v) = (refl, refl)
+      keeps (kinds-set v) = (refl, refl)
+      keeps (opened-prediction d) = (refl, refl)
+      keeps (opened-correction d) = (refl, refl)
