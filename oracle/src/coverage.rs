@@ -1,4 +1,4 @@
-//! What scripts should meet: every number that a call can give, every stage and step that can stop it, every size.
+//! What scripts should meet: every number that a call can give, every stage and step that can stop it, every setting on stale points and on points in use, every size.
 
 use crate::filter::Open;
 use crate::script::{Table, IN_USE, STALE};
@@ -60,19 +60,24 @@ pub const SETTERS: [&str; 5] = ["setx", "setp", "setq", "setpar", "setkind"];
 /// The closes of a correction, each met with every n and m.
 pub const CORRECTIONS: [(&str, &str); 2] = [("closec", "correction"), ("closef", "flat correction")];
 
+/// How often a call gave such a number with such words beside it.
+fn sum(table: &Table, call: &str, fits: impl Fn(u8, &str) -> bool) -> u64 {
+    table.iter().filter(|((c, number, more), _)| *c == call && fits(*number, more)).map(|(_, count)| count).sum()
+}
+
 /// How often a call gave a number, whatever the step.
 pub fn count(table: &Table, call: &str, number: u8) -> u64 {
-    table.iter().filter(|((c, n, _), _)| *c == call && *n == number).map(|(_, count)| count).sum()
+    sum(table, call, |n, _| n == number)
 }
 
-/// How often a call gave a number in this step, or at these sizes.
+/// How often a call gave a number in this step, on these points, or at these sizes.
 pub fn count_with(table: &Table, call: &str, number: u8, more: &str) -> u64 {
-    table.iter().filter(|((c, n, m), _)| *c == call && *n == number && m == more).map(|(_, count)| count).sum()
+    sum(table, call, |n, m| n == number && m == more)
 }
 
-/// How often a call was refused but by 3, on these points.
+/// How often a setting was refused on these points; but by 3, which looks at nothing that is lent.
 pub fn refused_with(table: &Table, call: &str, points: &str) -> u64 {
-    table.iter().filter(|((c, n, m), _)| *c == call && ![0, 3].contains(n) && m == points).map(|(_, count)| count).sum()
+    sum(table, call, |n, m| ![0, 3].contains(&n) && m == points)
 }
 
 /// What was not met.

@@ -10,7 +10,7 @@ use crate::steps::Params;
 pub const LINE: usize = 16_384;
 pub const LIST: u64 = 512;
 
-/// How often each call gave each number, and with it the stage or step that refused or, of an accepted close, the sizes, of a setting, the points before it.
+/// How often each call gave each number, and beside it the stage or step that refused, the sizes of an accepted close, or the points before a setting.
 pub type Table = BTreeMap<(&'static str, u8, String), u64>;
 
 /// What a `bad` line counts as.
@@ -131,9 +131,13 @@ fn bare(call: &'static str, outcome: Result<(), Trouble>) -> Result<Told, String
     told(call, outcome, |number, _| number.to_string())
 }
 
-/// An answer to a setting; the table tells on what points.
+/// An answer to a setting; the table tells on what points. The empty filter has none.
 fn set(call: &'static str, filter: &mut Filter, setting: impl FnOnce(&mut Filter) -> Result<(), Trouble>) -> Result<Told, String> {
-    let before = if filter.stale { STALE } else { IN_USE };
+    let before = match (filter.n, filter.stale) {
+        (0, _) => "",
+        (_, true) => STALE,
+        (_, false) => IN_USE,
+    };
     Ok(Told { more: before.into(), ..bare(call, setting(filter))? })
 }
 

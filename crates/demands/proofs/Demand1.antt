@@ -169,7 +169,7 @@ module _ (f : Format) where
   pub every-number-is-finite : (s : Filter) → Yielded f s → (cs : List Call) → Each (λ t. allFinite (handedOut t) ≡ true) (told f s cs)
   every-number-is-finite = all-handed-finite f
 
-  -- such a filter is sound: finite where in use, +0 in unused places, its parameters and kinds past 5 and 6, kinds past its states plain, the weights that count those of its parameters (Settings has more on that);
+  -- such a filter is sound: finite where in use, +0 in unused places, its parameters and kinds past 5 and 6, kinds past its states plain, the weights that count those of its parameters, the points of an open call drawn from its x and P or the current ones (Settings has more on that);
   pub yielded-is-sound : {s : Filter} → Yielded f s → Sound f s
   yielded-is-sound = sound f
 

@@ -286,12 +286,12 @@ module _ (f : Format) where
     pub flat-correction-from : flatFrom f s m z r observed ≡ flatHead f (s .n) m (s .x) (s .p) (s .«drawn_points») of-observed of-z of-r
     flat-correction-from = refl
 
-  -- An accepted open leaves the filter as it was, with what it has drawn beside it (`withDrawn` of filter/specs/Filters.antt), and hands out those points:
+  -- An accepted open leaves the filter as it was, with what it has drawn beside it (`withDrawn` of filter/specs/Filters.antt), and hands out those points (the reply's `stale` says something only where the mark is read):
   module _ (s : Filter) (b : List Float) where
     abbrev Opens : SetCall → Stage → Weighted → Type 0
     Opens c t d = step f s (setting c) ≡ record { filter = withDrawn s t d; reply = record { refusal = 0; given = take (pointNumbers (s .n)) (d .points); stale = true } }
 
-    -- a prediction, and a correction while stale, the points v that the draw from x and P gives, with the weights of the parameters;
+    -- a prediction, and a correction while stale, the points v that the draw from x and P gives by the parameters, with their weights;
     abbrev Draws : SetCall → Stage → Type 0
     Draws c t = (v : List Float) × (run (drawPlan f (s .n) (s .x) (s .p) (scaleOf f (s .n) (s .params))) ≡ accepted v) × Opens c t (record { weights = weightsOf f (s .n) (s .params); points = v })
 

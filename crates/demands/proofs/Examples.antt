@@ -20,7 +20,7 @@ use Rattle.sigma.specs.Weights.{lambdaOf, scaleOf, w0mOf, w0cOf, wiOf, weightsP
 use Rattle.sigma.specs.Draw.{pointAt}
 use Rattle.filter.specs.declared.Filter.{Filter}
 use Rattle.filter.specs.Asked.{inRange, guarded}
-use Rattle.filter.specs.Filters.{isShut}
+use Rattle.filter.specs.Filters.{isCorrecting}
 use Rattle.filter.specs.Calls.{Call, setting, closing, reading, open-prediction, open-correction, close-prediction, read-stale, set-x, abandon}
 use Rattle.filter.specs.Steps.{step}
 use Rattle.filter.specs.New.{newOf}
@@ -71,9 +71,9 @@ pub record Computed : Type 0 where
   -- what a run tells is not constant: two predictions on one filter that end at different x
   pub ends-at-2 : (lastX (told binary64 at-will (predicted (int 2) (int 4) (int 0))) are (int 2 ∷ [])) ≡ true
   pub ends-at-3 : (lastX (told binary64 at-will (predicted (int 3) (int 5) (int 1))) are (int 3 ∷ [])) ≡ true
-  -- calls lead to filters that aren't stale, and to ones with a call open
+  -- calls lead to filters that aren't stale, and to such with a correction open
   pub in-use : ranTo binary64 at-first (predicted (int 2) (int 4) (int 0)) .stale ≡ false
-  pub still-open : isShut (ranTo binary64 at-first (setting (open-correction three) ∷ []) .stage) ≡ false
+  pub still-open : isCorrecting (ranTo binary64 at-first (predicted (int 2) (int 4) (int 0) ++ (setting (open-correction three) ∷ [])) .stage) ≡ true
   -- a reading of the stale mark is taken
   pub read-taken : step binary64 at-first (reading read-stale) .reply .refusal ≡ 0
   -- the table fails for constant numbers at C9, for a filter handed back untouched at C9, and for a redraw at the first correction only at C11 and again at the next draw

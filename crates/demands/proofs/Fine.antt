@@ -5,7 +5,7 @@ use mathlib.Core.Bool.{Bool, true, false, cond}
 use mathlib.Core.List.{List, [], _∷_}
 use native.Mathlib.Nat.{mul-le-mul}
 use native.Mathlib.Omega.{arith}
-use borrow.Author.Tests.{leb-true, not-true}
+use borrow.Author.Tests.{leb-true}
 use lib.Dec.{leb, eqb}
 use lib.ListN.{length, set, getD, length-set}
 use lib.Seq.{getD-set-other}
@@ -33,7 +33,6 @@ use Rattle.filter.specs.Filters.{isShut, seen, Setting, x-set, p-set, q-set, pa
 use Rattle.filter.specs.Calls.{set-x, set-p, set-q, set-params, set-kind, open-prediction, open-correction, close-prediction, close-correction, close-correction-flat, read-x, read-p, read-q, read-points, read-params, read-stale, Call, setting, closing, abandon, reading, inKinds, asKinds, asks, Done, opened, closed, draws, plan, weightedFrom, flatFrom}
 use Rattle.filter.proofs.Closing.{predicting-open, correcting-open, predicting}
 use Rattle.demands.specs.Sound.{Filled, Laid, DrawnFrom, Sound}
-use Rattle.demands.proofs.Rows.{two-ways}
 use Rattle.demands.proofs.Passed.{both, Passed, Ran, ran-finish, ran-either, ran-mapped}
 use Rattle.demands.proofs.Listed.{drawing}
 use Rattle.demands.proofs.Arrays.{all-front, all-places, in-use-filled, filled-front, kinds-finite, kinds-fit}
@@ -53,7 +52,7 @@ module _ (f : Format) (s : Filter) where
   abbrev pub FineClosing : Closing → Type 0
   FineClosing c = Filled (s .n) 8 (c .x) × Filled (s .n * s .n) 64 (c .p) × Laid f (s .n) (s .params) (c .installed)
 
-  -- a setting is made with nothing open: what is drawn belongs to x, P and the parameters
+  -- a setting is made with nothing open, so that nothing drawn goes out of date
   abbrev pub Fine : Change → Type 0
   Fine (sets c) = FineSetting c × (isShut (s .stage) ≡ true)
   Fine (closes c) = FineClosing c
@@ -108,7 +107,7 @@ moment-filled u = (in-use-filled (u .x-in-use), in-use-filled (u .p-in-use))
 -- ---- each call, once taken
 
 module _ (f : Format) (s : Filter) (o : Sound f s) where
-  -- with nothing open the weights and points drawn, or the current ones, are laid out
+  -- with nothing open the weights and points drawn are laid out
   drawn-fine : (to : Weighted → Setting) → ((w : Weighted) → Laid f (s .n) (s .params) w → drawOf f (s .n) (s .x) (s .p) (scaleOf f (s .n) (s .params)) ≡ accepted (w .points) → FineSetting f s (to w)) → 1 ≤ s .n → isShut (s .stage) ≡ true
       → Ran (draws f to (seen s)) (λ (d : Done). FineDone f s d)
   drawn-fine to fine h t =
@@ -145,11 +144,11 @@ module _ (f : Format) (s : Filter) (o : Sound f s) where
       -- the index is a state's
       past : (j : ℕ) → s .n ≤ j → getD (set (s .kinds) i k) j plain ≡ plain
       past j l = getD-set-other (s .kinds) i j k plain (λ e. absurd (omega (arith, in-range 1 8 (s .n) (h .sizes .0), in-range 0 (s .n - 1) i (h .sizes .1 .0)))) ∙ o .past j l
-  fine (setting (open-prediction b)) h = drawn-fine opened-prediction (λ w a e. (a, record { current = λ k. absurd (two-ways k refl); afresh = λ k. e })) (in-range 1 8 (s .n) (h .sizes .0) .0) (h .fits)
+  fine (setting (open-prediction b)) h = drawn-fine opened-prediction (λ w a e. (a, e)) (in-range 1 8 (s .n) (h .sizes .0) .0) (h .fits)
   fine (setting (open-correction b)) h =
       ran-either _ (s .stale) _ _
-      (λ t. drawn-fine opened-correction (λ w a e. (a, record { current = λ k. absurd (two-ways t (not-true (s .stale) k)); afresh = λ k. e })) (in-range 1 8 (s .n) (h .sizes .0) .0) (h .fits))
-      (λ t. ran-finish _ _ (rw t (record { change = ((o .current t, record { current = λ k. refl; afresh = λ k. absurd (two-ways refl k) }), h .fits); given = o .current t .points .bounded })))
+      (λ t. drawn-fine opened-correction (λ w a e. (a, rw t e)) (in-range 1 8 (s .n) (h .sizes .0) .0) (h .fits))
+      (λ t. ran-finish _ _ (rw t (record { change = ((o .current t, refl), h .fits); given = o .current t .points .bounded })))
   fine (closing (close-prediction v)) h =
       let points = front (pointNumbers (s .n)) v (zeros 136) in
       ran-mapped _ (closed (seen s .«drawn_weights») points false) (predicting f (seen s) v) (λ m e.

@@ -14,16 +14,16 @@ use Rattle.correction.specs.Leaves.{widened}
 use Rattle.correction.specs.Correct.{Head, given, weightedHead}
 use Rattle.filter.specs.declared.Filter.{Filter}
 use Rattle.filter.specs.Filters.{filter, isShut, isCorrecting, closedWith}
-use Rattle.filter.specs.Calls.{SetCall, set-x, set-p, set-q, set-params, set-kind, setting, closing, close-correction, measurement, weightedFrom}
+use Rattle.filter.specs.Calls.{SetCall, set-x, set-p, set-q, set-params, set-kind, Call, setting, closing, close-correction, measurement, weightedFrom}
 use Rattle.filter.specs.Steps.{step}
 use Rattle.filter.proofs.Closing.{correcting-open}
 use Rattle.demands.specs.Listed.{state, covariance}
 use Rattle.demands.specs.Sound.{DrawnFrom, Yielded}
-use Rattle.demands.specs.Settings.{marks, AsPredicted, OfPoints}
+use Rattle.demands.specs.Settings.{marks, SincePredicted, qThen, OfPoints}
 use Rattle.demands.proofs.Table.{taken-fits}
 use Rattle.demands.proofs.Accepted.{setting-taken, setting-marked, setting-keeps, correction-closed}
 use Rattle.demands.proofs.Sound.{sound}
-use Rattle.demands.proofs.AsPredicted.{as-predicted, of-points}
+use Rattle.demands.proofs.SincePredicted.{since-predicted, of-points}
 
 -- ---- What a setting does, on any filter
 
@@ -42,7 +42,7 @@ module _ (f : Format) (s : Filter) where
   pub points-not-touched : (c : SetCall) → (after c .weights ≡ s .weights) × (after c .points ≡ s .points)
   points-not-touched c = setting-keeps f s c
 
-  -- In all, an accepted setting puts its numbers into their place, +0 past those in use, and marks (the `true` before the stage); nothing else changes.
+  -- In all, an accepted setting puts what it is given into its place, lists with +0 past the numbers in use; all but Q mark (the `true` before the stage); nothing else changes.
   pub x-is-set : (v : List Float) → Taken (set-x v)
       → after (set-x v) ≡ filter (s .n) (front (s .n) v (zeros 8)) (s .p) (s .q) (s .params) (s .kinds) (s .weights) (s .points) true (s .stage) (s .«drawn_weights») (s .«drawn_points»)
   x-is-set v e = setting-taken f s (set-x v) _ refl e
@@ -74,32 +74,33 @@ module _ (f : Format) {s : Filter} (y : Yielded f s) where
   pub drawn-weights : isShut (s .stage) ≡ false → s .«drawn_weights» ≡ weightsOf f (s .n) (s .params)
   drawn-weights e = sound f y .drawn e .weights-of
 
-  -- Nor do old points stay in use: those of an open call are drawn from x and P by the parameters as they stand or, in a correction while not stale, the current ones.
+  -- Nor do old points stay in use: those of an open call are drawn from x and P by the parameters as they stand or, in a correction while not stale, the current ones;
   pub drawn-points : isShut (s .stage) ≡ false → DrawnFrom f s
   drawn-points = sound f y .drawn-from
 
-  -- And while the filter isn't stale, its x, P, parameters, kinds, weights and points are as an accepted close of a prediction leaves them (so nothing but Q has been set since: the same number set again would have marked);
-  pub nothing-set-since : s .stale ≡ false → AsPredicted f s
-  nothing-set-since = as-predicted f y
+  -- and while the filter isn't stale, nothing but Q has been set since its prediction was closed: no call accepted since has marked or closed.
+  pub nothing-set-since : s .stale ≡ false → SincePredicted f s
+  nothing-set-since e = since-predicted f y e
 
-  -- x is the mean of the points, and P their spread with the Q of then.
-  pub points-belong : s .stale ≡ false → OfPoints f s
-  points-belong = of-points f y
+  -- So x is the mean of its points, and P their spread with the Q of that prediction.
+  pub points-belong : (e : s .stale ≡ false) → OfPoints f s (qThen (nothing-set-since e))
+  points-belong e = of-points f (nothing-set-since e)
 
-  -- So the w0m of a correction always belongs to its weights: its close starts from the w0m and from the weights of the parameters as they stand,
+  -- And the w0m of a correction always belongs to its weights: its close starts from the w0m and from the weights of the parameters as they stand,
   module _ (m : ℕ) (z r : List Float) (kinds : List Kind) (observed : List Float) where
     abbrev headBy : List Float → Head
     headBy weights =
         let v = measurement (s .n) m z r observed in
         weightedHead f (given (s .n) m (s .x) (s .p) (s .«drawn_points») (v .observed) (w0mOf f (s .n) (s .params)) weights (v .z) (v .r) (s .kinds) (widened kinds))
 
+    abbrev close : Call
+    close = closing (close-correction m z r kinds observed)
+
     pub w0m-belongs-to-its-weights : isCorrecting (s .stage) ≡ true → weightedFrom f s m z r kinds observed ≡ headBy (weightsOf f (s .n) (s .params))
     w0m-belongs-to-its-weights h = ap headBy (drawn-weights (correcting-open (s .stage) h))
 
     -- and, accepted, has made x and P by them.
-    pub corrected-by-its-parameters : step f s (closing (close-correction m z r kinds observed)) .reply .refusal ≡ 0
-        → step f s (closing (close-correction m z r kinds observed)) .filter
-        ≡ (let h = headBy (weightsOf f (s .n) (s .params)) in closedWith s (s .«drawn_points») true (state f h) (covariance f h))
+    pub corrected-by-its-parameters : step f s close .reply .refusal ≡ 0 → step f s close .filter ≡ (let h = headBy (weightsOf f (s .n) (s .params)) in closedWith s (s .«drawn_points») true (state f h) (covariance f h))
     corrected-by-its-parameters e =
         correction-closed f s m z r kinds observed e
-        ∙ ap (λ (h : Head). closedWith s (s .«drawn_points») true (state f h) (covariance f h)) (w0m-belongs-to-its-weights (taken-fits f s (closing (close-correction m z r kinds observed)) e))
+        ∙ ap (λ (h : Head). closedWith s (s .«drawn_points») true (state f h) (covariance f h)) (w0m-belongs-to-its-weights (taken-fits f s close e))

@@ -1,17 +1,15 @@
--- Document 02, A3: which calls mark a filter stale, and what it is while it isn't. Definitions only.
+-- Document 02, A3: which settings mark a filter stale, and what it is while it isn't. Definitions only.
 use Prim.Native.Nat.{_+_, _*_}
 use mathlib.Core.Path.{_≡_}
 use mathlib.Core.Bool.{Bool, true, false}
-use mathlib.Core.List.{List, []}
+use mathlib.Core.List.{List}
 use lib.Ieee.{Float, Format}
 use Rattle.matrix.specs.Sums.{plusOf}
 use Rattle.sigma.specs.Weights.{w0mOf}
 use Rattle.sigma.specs.Mean.{meanOf}
 use Rattle.sigma.specs.Spread.{deviationsOf, spreadOf}
-use Rattle.filter.specs.declared.Stage.the-variants.{Shut}
 use Rattle.filter.specs.declared.Filter.{Filter}
-use Rattle.filter.specs.Filters.{filter}
-use Rattle.filter.specs.Calls.{SetCall, set-x, set-p, set-q, set-params, set-kind, open-prediction, open-correction, closing, close-prediction}
+use Rattle.filter.specs.Calls.{SetCall, set-x, set-p, set-q, set-params, set-kind, open-prediction, open-correction, close-prediction, Call, setting, closing, abandon, reading}
 use Rattle.filter.specs.Steps.{step}
 use Rattle.demands.specs.Sound.{Yielded}
 
@@ -25,20 +23,24 @@ marks (set-kind i k) = true
 marks (open-prediction b) = false
 marks (open-correction b) = false
 
--- a filter without Q, what is open and what that has drawn
-abbrev pub bare : Filter → Filter
-bare s = filter (s .n) (s .x) (s .p) [] (s .params) (s .kinds) (s .weights) (s .points) (s .stale) Shut [] []
+-- accepted, these leave x, P, the parameters, kinds, points, weights and the mark as they are: setting Q, opening, abandon, reading
+abbrev pub Unmarking : Call → Type 0
+Unmarking (setting c) = marks c ≡ false
+Unmarking (closing c) = ⊥
+Unmarking abandon = Unit {0}
+Unmarking (reading c) = Unit {0}
 
--- but for those it is as an accepted close of a prediction leaves a filter
-pub record AsPredicted (f : Format) (s : Filter) : Type 0 where
-  pub before : Filter
-  pub spoken : Yielded f before
-  pub propagated : List Float
-  pub taken : step f before (closing (close-prediction propagated)) .reply .refusal ≡ 0
-  pub same : bare (step f before (closing (close-prediction propagated)) .filter) ≡ bare s
+-- a filter that an accepted close of a prediction has left, and calls after it of which no other was accepted
+pub data SincePredicted (f : Format) : Filter → Type 0 where
+  predicted : {s : Filter} → Yielded f s → (v : List Float) → step f s (closing (close-prediction v)) .reply .refusal ≡ 0 → SincePredicted f (step f s (closing (close-prediction v)) .filter)
+  unmarked : {s : Filter} → SincePredicted f s → (c : Call) → (step f s c .reply .refusal ≡ 0 → Unmarking c) → SincePredicted f (step f s c .filter)
 
--- x is the mean of the current points, and P their spread with some Q, by the weights, parameters and kinds as they stand
-abbrev pub OfPoints : Format → Filter → Type 0
-OfPoints f s =
-    let dx = deviationsOf f (s .points) (s .n) (s .n + s .n) (s .x) (s .kinds) in
-    (s .x ≡ meanOf f (s .points) (s .n) (s .n + s .n) (w0mOf f (s .n) (s .params)) (s .weights) (s .kinds)) × ((q : List Float) × (s .p ≡ plusOf f (s .n * s .n) q (spreadOf f dx (s .n) dx (s .n) (s .weights) (s .n + s .n))))
+-- the Q of that prediction
+abbrev pub qThen : {f : Format} {s : Filter} → SincePredicted f s → List Float
+qThen (predicted {s = s} y v e) = s .q
+qThen (unmarked k c h) = qThen k
+
+-- x is the mean of the current points, and P is q + their spread, by the weights, parameters and kinds as they stand
+pub record OfPoints (f : Format) (s : Filter) (q : List Float) : Type 0 where
+  pub x : s .x ≡ meanOf f (s .points) (s .n) (s .n + s .n) (w0mOf f (s .n) (s .params)) (s .weights) (s .kinds)
+  pub p : let dx = deviationsOf f (s .points) (s .n) (s .n + s .n) (s .x) (s .kinds) in s .p ≡ plusOf f (s .n * s .n) q (spreadOf f dx (s .n) dx (s .n) (s .weights) (s .n + s .n))

@@ -1,7 +1,7 @@
 -- What holds of every filter that the demands speak of, and the numbers that are handed out. Definitions only.
 use Prim.Native.Nat.{ℕ, _+_, _-_, _*_, _≤_}
 use mathlib.Core.Path.{_≡_}
-use mathlib.Core.Bool.{true, false, not, _&&_}
+use mathlib.Core.Bool.{true, false, not, _&&_, cond}
 use mathlib.Core.List.{List, [], _∷_, _++_}
 use lib.ListN.{length, take, drop, getD}
 use lib.Ieee.{Float, Format}
@@ -26,16 +26,15 @@ pub record Filled (k m : ℕ) (l : List Float) : Type 0 where
   pub bounded : allFinite (take k l) ≡ true
   pub unused : drop k l ≡ zeros (m - k)
 
--- points and weights that count: 2n+1 finite points, and as many finite weights, which are those of the parameters p
+-- points and weights that count: 2n+1 finite points, and as many finite weights, which are those of the parameters p (from 1 state on they are finite by that)
 pub record Laid (f : Format) (n : ℕ) (p : Params) (w : Weighted) : Type 0 where
   pub weights-of : w .weights ≡ weightsOf f n p
   pub weights : Filled (n + n + 1) 17 (w .weights)
   pub points : Filled (pointNumbers n) 136 (w .points)
 
--- the points that an open call has drawn: a correction on points that aren't stale has those; every other open call has those that the draw from x and P gives, by the parameters
-pub record DrawnFrom (f : Format) (s : Filter) : Type 0 where
-  pub current : (isCorrecting (s .stage) && not (s .stale)) ≡ true → s .«drawn_points» ≡ s .points
-  pub afresh : (isCorrecting (s .stage) && not (s .stale)) ≡ false → drawOf f (s .n) (s .x) (s .p) (scaleOf f (s .n) (s .params)) ≡ accepted (s .«drawn_points»)
+-- the points that an open call has drawn: in a correction while not stale the current ones; in any other those that the draw from x and P gives, by the parameters
+abbrev pub DrawnFrom : Format → Filter → Type 0
+DrawnFrom f s = cond (isCorrecting (s .stage) && not (s .stale)) (accepted (s .points)) (drawOf f (s .n) (s .x) (s .p) (scaleOf f (s .n) (s .params))) ≡ accepted (s .«drawn_points»)
 
 -- THE INVARIANT
 pub record Sound (f : Format) (s : Filter) : Type 0 where

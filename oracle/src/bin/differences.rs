@@ -174,6 +174,7 @@ fn settings() {
     setting("alpha = 2", |rust| rust.set_params(par), |filter| filter.set_params(par));
     setting("alpha = 1 again", |rust| rust.set_params(C1), |filter| filter.set_params(C1));
     setting("x = 10", |rust| rust.set_x(&[10.0]), |filter| filter.set_x(&[10.0]));
+    setting("P = -4", |rust| rust.set_p(&[-4.0]), |filter| filter.set_p(&[-4.0]));
     setting("P = 9", |rust| rust.set_p(&[9.0]), |filter| filter.set_p(&[9.0]));
     setting("a turn of 1.5", |rust| rust.set_kinds(&[Kind::Turn(1.5)]), |filter| filter.set_kind(0, Kind::Turn(1.5)));
     setting("Q = 9", |rust| rust.set_q(&[9.0]), |filter| filter.set_q(&[9.0]));
@@ -194,7 +195,11 @@ fn setting(name: &str, rust: impl FnOnce(&mut Held<1, 3>), ours: impl FnOnce(&mu
         Ok(format!("x={:?} P={:?}, points {points:?}", filter.x, filter.p))
     };
     row("", name, format!("published {given}, points {points:?}"));
-    row("", "", format!("documents {}", taken().expect("nothing is refused")));
+    let told = taken().unwrap_or_else(|trouble| match trouble {
+        Trouble::Refused(stop) => format!("refused by {} ({})", stop.number, stop.step),
+        Trouble::Parted(why) => panic!("{why}"),
+    });
+    row("", "", format!("documents {told}"));
 }
 
 fn wraps() {

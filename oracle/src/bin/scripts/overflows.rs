@@ -209,19 +209,19 @@ impl Maker {
         Ok(())
     }
 
-    /// For the flat close: points drawn `size` from x, whose square overflows. (Weights shrink by as much.) The root of N is alpha.
-    fn far_points(&mut self, size: f64) -> Made<()> {
+    /// For the flat close: points drawn 1e200 from x, whose squares overflow. (Weights shrink with the square, so a weighted close wants another way.)
+    fn far_points(&mut self) -> Made<()> {
         let n = self.n();
         let p = self.random.covariance(n, 1.0e50);
         self.set_p(&p)?;
-        self.say(format!("setpar{}", params(Params { alpha: size * 1.0e-50, beta: 0.0, kappa: 1.0 - n as f64 })))?;
+        self.say(format!("setpar{}", params(Params { alpha: 1.0e150, beta: 0.0, kappa: 1.0 - n as f64 })))?;
         Ok(())
     }
 
     fn x_mean(&mut self, average: Average, m: usize) -> Made<()> {
         let n = self.n();
         match average {
-            // The weights add up to more than 1, rounded as they are, for about one alpha in four; and x is the largest double.
+            // A number of x is the largest double, and the weights, rounded as they are, add up to more than 1: they do for about one alpha in four.
             Average::Weighted => {
                 let mut x = self.random.vector(n, 1.0);
                 let at = self.random.below(n);
@@ -260,7 +260,7 @@ impl Maker {
     fn cross_covariance(&mut self, average: Average, m: usize) -> Made<()> {
         let observed = match average {
             // The centre weighs -1: its square takes most of those of two opposite points away, in P and in S.
-            // For z it lies on the other side, and there the products add up.
+            // For z it lies on the other side, so in the cross covariance the products add up.
             Average::Weighted => {
                 let (n, sign) = (self.n(), self.random.sign());
                 self.say(format!("setpar{}", params(Params { alpha: 1.0, beta: -1.0, kappa: 0.0 })))?;
@@ -274,7 +274,7 @@ impl Maker {
                 observed
             }
             Average::Flat => {
-                self.far_points(1.0e200)?;
+                self.far_points()?;
                 self.opposite(m, 1.0e150)?.0
             }
         };
@@ -332,7 +332,7 @@ impl Maker {
         let (observed, r) = match average {
             Average::Weighted => self.nearly_no_noise(m, power(1020), power(-470))?,
             Average::Flat => {
-                self.far_points(1.0e200)?;
+                self.far_points()?;
                 let mut observed = self.opened_correction(m)?;
                 // Not opposite: with equal deviations of the states, the terms must not cancel.
                 let j = self.random.below(m);
@@ -389,7 +389,7 @@ impl Maker {
         let (observed, r) = match average {
             Average::Weighted => self.nearly_no_noise(m, power(1000), 1.0)?,
             Average::Flat => {
-                self.far_points(1.0e200)?;
+                self.far_points()?;
                 let mut observed = self.opened_correction(m)?;
                 let j = self.random.below(m);
                 observed[m + j] = 1.0;

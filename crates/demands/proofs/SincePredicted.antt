@@ -1,0 +1,93 @@
+-- While a filter isn't stale, no accepted call since the close of its prediction has marked or closed; so its x and P are of its points. Assumes nothing.
+use Prim.Native.Nat.{ℕ}
+use mathlib.Core.Path.{_≡_, refl, sym, ap, _∙_, subst}
+use mathlib.Core.Bool.{Bool, true, false, _||_}
+use mathlib.Core.List.{List, []}
+use mathlib.Core.Logic.{⊎-elim}
+use native.Mathlib.Omega.{arith}
+use lib.Ieee.{Float, Format}
+use Rattle.floats.specs.Refusal.{or}
+use Rattle.floats.proofs.Refusals.{number-above}
+use Rattle.sigma.specs.declared.Params.{Params}
+use Rattle.filter.specs.declared.Filter.{Filter}
+use Rattle.filter.specs.declared.Stage.the-variants.{Shut}
+use Rattle.filter.specs.Filters.{filter}
+use Rattle.filter.specs.Calls.{set-x, set-p, set-q, set-params, set-kind, open-prediction, open-correction, close-prediction, close-correction, close-correction-flat, Call, setting, closing, abandon, reading}
+use Rattle.filter.specs.Steps.{Stepped, step}
+use Rattle.filter.specs.New.{empty, newAsks, newOf, newAnswer}
+use Rattle.demands.specs.Sound.{Yielded, fresh-made, stepped-on, put-at-will}
+use Rattle.demands.specs.Settings.{marks, Unmarking, SincePredicted, predicted, unmarked, qThen, OfPoints}
+use Rattle.demands.proofs.Rows.{two-ways}
+use Rattle.demands.proofs.Exactly.{ends-so, refused-nothing}
+use Rattle.demands.proofs.Passed.{by-cases}
+use Rattle.demands.proofs.Leftover.{step-cases}
+use Rattle.demands.proofs.Accepted.{prediction-closed, correction-closed, flat-correction-closed, prediction-opened, correction-opened-afresh, correction-opened, setting-taken, setting-marked}
+
+-- without Q, what is open and what that has drawn
+abbrev bare : Filter → Filter
+bare s = filter (s .n) (s .x) (s .p) [] (s .params) (s .kinds) (s .weights) (s .points) (s .stale) Shut [] []
+
+neither : (a b : Bool) → (a || b) ≡ false → (a ≡ false) × (b ≡ false)
+neither false b e = (refl, e)
+neither true b e = absurd (two-ways refl e)
+
+module _ (f : Format) (s : Filter) where
+  -- ---- a call that is refused or doesn't mark leaves the rest
+
+  taken-bare : (c : Call) → Unmarking c → step f s c .reply .refusal ≡ 0 → bare s ≡ bare (step f s c .filter)
+  taken-bare (setting (set-x v)) u z = absurd (two-ways refl u)
+  taken-bare (setting (set-p v)) u z = absurd (two-ways refl u)
+  taken-bare (setting (set-q v)) u z = ap bare (sym (setting-taken f s (set-q v) _ refl z))
+  taken-bare (setting (set-params p)) u z = absurd (two-ways refl u)
+  taken-bare (setting (set-kind i k)) u z = absurd (two-ways refl u)
+  taken-bare (setting (open-prediction b)) u z = ap (λ (t : Stepped). bare (t .filter)) (sym (prediction-opened f s b z .2))
+  taken-bare (setting (open-correction b)) u z = go (s .stale) refl
+    where
+      go : (t : Bool) → s .stale ≡ t → bare s ≡ bare (step f s (setting (open-correction b)) .filter)
+      go true h = ap (λ (t : Stepped). bare (t .filter)) (sym (correction-opened-afresh f s b h z .2))
+      go false h = ap (λ (t : Stepped). bare (t .filter)) (sym (correction-opened f s b h z))
+  taken-bare (closing c) u z = absurd u
+  taken-bare abandon u z = step-cases f s abandon (λ t. bare s ≡ bare t) refl (λ d o g n. rw o)
+  taken-bare (reading c) u z = step-cases f s (reading c) (λ t. bare s ≡ bare t) refl (λ d o g n. rw o)
+
+  unmarked-bare : (c : Call) → (step f s c .reply .refusal ≡ 0 → Unmarking c) → bare s ≡ bare (step f s c .filter)
+  unmarked-bare c h = ⊎-elim (λ z. taken-bare c (h z) z) (λ q. ap bare (sym (refused-nothing f s c (λ z. absurd (omega (arith, number-above (q .0), q .1, z))) .0))) (ends-so f s c)
+
+  -- ---- a call after which the filter isn't stale: the close of a prediction, or one that is refused or doesn't mark
+
+  module _ (y : Yielded f s) (was : s .stale ≡ false → SincePredicted f s) where
+    abbrev So : Call → Type 0
+    So c = step f s c .filter .stale ≡ false → SincePredicted f (step f s c .filter)
+
+    goes-on : (c : Call) → (step f s c .reply .refusal ≡ 0 → Unmarking c) → So c
+    goes-on c h e = unmarked (was (ap (λ (t : Filter). t .stale) (unmarked-bare c h) ∙ e)) c h
+
+    either : (c : Call) → (step f s c .reply .refusal ≡ 0 → So c) → So c
+    either c taken = ⊎-elim taken (λ q. goes-on c (λ z. absurd (omega (arith, number-above (q .0), q .1, z)))) (ends-so f s c)
+
+    call-so : (c : Call) → So c
+    call-so (setting c) = either (setting c) (λ z e. goes-on (setting c) (λ k. neither (marks c) (s .stale) (sym (setting-marked f s c z) ∙ e) .0) e)
+    call-so (closing (close-prediction v)) = either (closing (close-prediction v)) (λ z e. predicted y v z)
+    call-so (closing (close-correction m z r kinds observed)) = either (closing (close-correction m z r kinds observed)) (λ k e. absurd (two-ways (ap (λ (t : Filter). t .stale) (correction-closed f s m z r kinds observed k)) e))
+    call-so (closing (close-correction-flat m z r observed)) = either (closing (close-correction-flat m z r observed)) (λ k e. absurd (two-ways (ap (λ (t : Filter). t .stale) (flat-correction-closed f s m z r observed k)) e))
+    call-so abandon = goes-on abandon (λ z. tt)
+    call-so (reading c) = goes-on (reading c) (λ z. tt)
+
+module _ (f : Format) where
+  new-stale : (n : ℕ) (x p q : List Float) (params : Params) → newAnswer f n x p q params .filter .stale ≡ true
+  unfolding newOf
+  new-stale n x p q params = by-cases (λ o. or empty o .stale ≡ true) (λ r. refl) f (newAsks f n x p q params) _ (λ h. refl)
+
+  -- NOTHING BUT Q HAS BEEN SET SINCE
+  pub since-predicted : {s : Filter} → Yielded f s → s .stale ≡ false → SincePredicted f s
+  since-predicted (fresh-made n x p q params) e = absurd (two-ways (new-stale n x p q params) e)
+  since-predicted (stepped-on {s = s} y c) e = call-so f s y (λ k. since-predicted y k) c e
+  since-predicted (put-at-will t y a) e = absurd (two-ways (a .stale₂) e)
+
+  -- X AND P ARE OF THE POINTS
+  pub of-points : {s : Filter} (k : SincePredicted f s) → OfPoints f s (qThen k)
+  of-points (predicted {s = s} y v e) = subst (λ (t : Filter). OfPoints f t (s .q)) (sym (prediction-closed f s v e)) (record { x = refl; p = refl })
+  of-points (unmarked {s = s} k c h) = bare-points (unmarked-bare f s c h) (of-points k)
+    where
+      bare-points : {t u : Filter} {q : List Float} → bare t ≡ bare u → OfPoints f t q → OfPoints f u q
+      bare-points {t} {u} {q} e a = let b : OfPoints f (bare u) q = subst (λ (v : Filter). OfPoints f v q) e (record { x = a .x; p = a .p }) in record { x = b .x; p = b .p }
