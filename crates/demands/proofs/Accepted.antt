@@ -14,12 +14,12 @@ use Rattle.sigma.specs.Weights.{weightsOf}
 use Rattle.correction.specs.Correct.{applyPlan}
 use Rattle.filter.specs.declared.Filter.{Filter}
 use Rattle.filter.specs.declared.Weighted.{Weighted}
-use Rattle.filter.specs.Filters.{seen, Setting, x-set, p-set, q-set, params-set, kinds-set, opened-prediction, opened-correction, sets, set, closedWith}
-use Rattle.filter.specs.Calls.{SetCall, set-x, set-p, set-q, set-params, set-kind, Call, setting, closing, open-prediction, open-correction, close-prediction, close-correction, close-correction-flat, asks, Done, done, opened, closed, draws, plan, weightedFrom, flatFrom}
+use Rattle.filter.specs.Filters.{seen, Writing, q-set, params-set, kinds-set, Setting, x-set, p-set, opened-prediction, opened-correction, Change, writes, sets, changed, closedWith}
+use Rattle.filter.specs.Calls.{SheetCall, set-q, set-params, set-kind, SetCall, set-x, set-p, Call, writing, setting, closing, open-prediction, open-correction, close-prediction, close-correction, close-correction-flat, asks, Done, done, writingOf, opened, closed, draws, plan, weightedFrom, flatFrom}
 use Rattle.filter.specs.Steps.{Stepped, stepped, step}
 use Rattle.filter.proofs.Closing.{propagatedOf, predicting, predicting-is, correcting-is, correcting-flat-is}
 use Rattle.demands.specs.Listed.{state, covariance}
-use Rattle.demands.specs.Settings.{marks}
+use Rattle.demands.specs.Settings.{sheetMarks, marks}
 use Rattle.demands.proofs.Passed.{by-cases, Ran, run-cases, ran-finish, ran-mapped, mapped-ran, made, ran-made}
 use Rattle.demands.proofs.Listed.{drawing}
 use Rattle.demands.proofs.Table.{taken-fits}
@@ -44,9 +44,9 @@ module _ (f : Format) (s : Filter) where
   -- ---- closes
 
   -- a close that installs the points v once its steps p are done
-  closed-as : (c : Call) (v : List Float) (stale : Bool) (p : Plan Moment) → plan f (seen s) c ≡ mapped (closed (s .«drawn_weights») v stale) p → step f s c .reply .refusal ≡ 0 → step f s c .filter ≡ closedWith s v stale (made p .x) (made p .p)
+  closed-as : (c : Call) (v : List Float) (stale : Bool) (p : Plan Moment) → plan f (seen s) c ≡ mapped (closed (s .track .«drawn_weights») v stale) p → step f s c .reply .refusal ≡ 0 → step f s c .filter ≡ closedWith s v stale (made p .x) (made p .p)
   closed-as c v stale p is e =
-      let g = closed (s .«drawn_weights») v stale in
+      let g = closed (s .track .«drawn_weights») v stale in
       ap (λ (t : Stepped). t .filter) (taken-step c (g (made p)) (rw is (ran-mapped _ g p (λ a k. ap g (ran-made p a k)))) e)
 
   pub prediction-closed : (v : List Float) → let c = closing (close-prediction v) in step f s c .reply .refusal ≡ 0
@@ -55,68 +55,84 @@ module _ (f : Format) (s : Filter) where
 
   -- a correction, weighted and flat
   pub correction-closed : (m : ℕ) (z r : List Float) (kinds : List Kind) (observed : List Float) → let c = closing (close-correction m z r kinds observed) in step f s c .reply .refusal ≡ 0
-      → step f s c .filter ≡ (let h = weightedFrom f s m z r kinds observed in closedWith s (s .«drawn_points») true (state f h) (covariance f h))
+      → step f s c .filter ≡ (let h = weightedFrom f s m z r kinds observed in closedWith s (s .track .«drawn_points») true (state f h) (covariance f h))
   correction-closed m z r kinds observed e =
       let c = closing (close-correction m z r kinds observed) in
-      closed-as c (s .«drawn_points») true (applyPlan f (weightedFrom f s m z r kinds observed)) (correcting-is f s m z r kinds observed (taken-fits f s c e)) e
+      closed-as c (s .track .«drawn_points») true (applyPlan f (weightedFrom f s m z r kinds observed)) (correcting-is f s m z r kinds observed (taken-fits f s c e)) e
 
   pub flat-correction-closed : (m : ℕ) (z r observed : List Float) → let c = closing (close-correction-flat m z r observed) in step f s c .reply .refusal ≡ 0
-      → step f s c .filter ≡ (let h = flatFrom f s m z r observed in closedWith s (s .«drawn_points») true (state f h) (covariance f h))
+      → step f s c .filter ≡ (let h = flatFrom f s m z r observed in closedWith s (s .track .«drawn_points») true (state f h) (covariance f h))
   flat-correction-closed m z r observed e =
       let c = closing (close-correction-flat m z r observed) in
-      closed-as c (s .«drawn_points») true (applyPlan f (flatFrom f s m z r observed)) (correcting-flat-is f s m z r observed (taken-fits f s c e)) e
+      closed-as c (s .track .«drawn_points») true (applyPlan f (flatFrom f s m z r observed)) (correcting-flat-is f s m z r observed (taken-fits f s c e)) e
 
   -- ---- opens
 
   -- with the points v drawn from x and P, and the weights of the parameters
   abbrev pub DrawnBy : SetCall → (Weighted → Setting) → Type 0
-  DrawnBy c to = (v : List Float) × (run (drawing f s) ≡ accepted v) × (step f s (setting c) ≡ stepped s (accepted (opened to (s .n) (weightsOf f (s .n) (s .params)) v)))
+  DrawnBy c to = (v : List Float) × (run (drawing f s) ≡ accepted v) × (step f s (setting c) ≡ stepped s (accepted (opened to (s .sheet .n) (weightsOf f (s .sheet .n) (s .sheet .params)) v)))
 
   drawn-so : (c : SetCall) (to : Weighted → Setting) → plan f (seen s) (setting c) ≡ draws f to (seen s) → step f s (setting c) .reply .refusal ≡ 0 → DrawnBy c to
   drawn-so c to is e =
       let t = taken-ran (setting c) e in
-      let v = mapped-ran (opened to (s .n) (weightsOf f (s .n) (s .params))) (drawing f s) (t .0) (ap run (sym is) ∙ t .1) in
+      let v = mapped-ran (opened to (s .sheet .n) (weightsOf f (s .sheet .n) (s .sheet .params))) (drawing f s) (t .0) (ap run (sym is) ∙ t .1) in
       (v .0, v .1, t .2 ∙ ap (λ (x : Done). stepped s (accepted x)) (v .2))
 
   module _ (b : List Float) where
     pub prediction-opened : step f s (setting (open-prediction b)) .reply .refusal ≡ 0 → DrawnBy (open-prediction b) opened-prediction
     prediction-opened e = drawn-so (open-prediction b) opened-prediction refl e
 
-    pub correction-opened-afresh : s .stale ≡ true → step f s (setting (open-correction b)) .reply .refusal ≡ 0 → DrawnBy (open-correction b) opened-correction
+    pub correction-opened-afresh : s .track .stale ≡ true → step f s (setting (open-correction b)) .reply .refusal ≡ 0 → DrawnBy (open-correction b) opened-correction
     correction-opened-afresh h e = drawn-so (open-correction b) opened-correction (rw h) e
 
     -- with the current points and weights
-    pub correction-opened : s .stale ≡ false → step f s (setting (open-correction b)) .reply .refusal ≡ 0 → step f s (setting (open-correction b)) ≡ stepped s (accepted (opened opened-correction (s .n) (s .weights) (s .points)))
-    correction-opened h e = taken-step (setting (open-correction b)) (opened opened-correction (s .n) (s .weights) (s .points)) (rw h (ran-finish _ _ refl)) e
+    pub correction-opened : s .track .stale ≡ false → step f s (setting (open-correction b)) .reply .refusal ≡ 0 → step f s (setting (open-correction b)) ≡ stepped s (accepted (opened opened-correction (s .sheet .n) (s .track .weights) (s .track .points)))
+    correction-opened h e = taken-step (setting (open-correction b)) (opened opened-correction (s .sheet .n) (s .track .weights) (s .track .points)) (rw h (ran-finish _ _ refl)) e
 
-  -- ---- settings
+  -- ---- changes of the sheet, and settings
 
   -- one that is taken has made its change
-  pub setting-taken : (c : SetCall) (u : Setting) → plan f (seen s) (setting c) ≡ finish (done (sets u) []) → step f s (setting c) .reply .refusal ≡ 0 → step f s (setting c) .filter ≡ set s u
-  setting-taken c u is e = ap (λ (t : Stepped). t .filter) (taken-step (setting c) (done (sets u) []) (rw is (ran-finish _ _ refl)) e)
+  finished-taken : (c : Call) (u : Change) → plan f (seen s) c ≡ finish (done u []) → step f s c .reply .refusal ≡ 0 → step f s c .filter ≡ changed s u
+  finished-taken c u is e = ap (λ (t : Stepped). t .filter) (taken-step c (done u []) (rw is (ran-finish _ _ refl)) e)
 
-  pub setting-marked : (c : SetCall) → step f s (setting c) .reply .refusal ≡ 0 → step f s (setting c) .filter .stale ≡ (marks c || s .stale)
-  setting-marked (set-x v) e = ap (λ (t : Filter). t .stale) (setting-taken (set-x v) _ refl e)
-  setting-marked (set-p v) e = ap (λ (t : Filter). t .stale) (setting-taken (set-p v) _ refl e)
-  setting-marked (set-q v) e = ap (λ (t : Filter). t .stale) (setting-taken (set-q v) _ refl e)
-  setting-marked (set-params p) e = ap (λ (t : Filter). t .stale) (setting-taken (set-params p) _ refl e)
-  setting-marked (set-kind i k) e = ap (λ (t : Filter). t .stale) (setting-taken (set-kind i k) _ refl e)
-  setting-marked (open-prediction b) e = ap (λ (t : Stepped). t .filter .stale) (prediction-opened b e .2)
-  setting-marked (open-correction b) e = go (s .stale) refl
+  pub writing-taken : (c : SheetCall) → step f s (writing c) .reply .refusal ≡ 0 → step f s (writing c) .filter ≡ changed s (writes (writingOf (s .sheet) c))
+  writing-taken c e = finished-taken (writing c) _ refl e
+
+  pub setting-taken : (c : SetCall) (u : Setting) → plan f (seen s) (setting c) ≡ finish (done (sets u) []) → step f s (setting c) .reply .refusal ≡ 0 → step f s (setting c) .filter ≡ changed s (sets u)
+  setting-taken c u is e = finished-taken (setting c) (sets u) is e
+
+  pub writing-marked : (c : SheetCall) → step f s (writing c) .reply .refusal ≡ 0 → step f s (writing c) .filter .track .stale ≡ (sheetMarks c || s .track .stale)
+  writing-marked (set-q v) e = ap (λ (t : Filter). t .track .stale) (writing-taken (set-q v) e)
+  writing-marked (set-params p) e = ap (λ (t : Filter). t .track .stale) (writing-taken (set-params p) e)
+  writing-marked (set-kind i k) e = ap (λ (t : Filter). t .track .stale) (writing-taken (set-kind i k) e)
+
+  pub setting-marked : (c : SetCall) → step f s (setting c) .reply .refusal ≡ 0 → step f s (setting c) .filter .track .stale ≡ (marks c || s .track .stale)
+  setting-marked (set-x v) e = ap (λ (t : Filter). t .track .stale) (setting-taken (set-x v) _ refl e)
+  setting-marked (set-p v) e = ap (λ (t : Filter). t .track .stale) (setting-taken (set-p v) _ refl e)
+  setting-marked (open-prediction b) e = ap (λ (t : Stepped). t .filter .track .stale) (prediction-opened b e .2)
+  setting-marked (open-correction b) e = go (s .track .stale) refl
     where
-      go : (t : Bool) → s .stale ≡ t → step f s (setting (open-correction b)) .filter .stale ≡ s .stale
-      go true h = ap (λ (t : Stepped). t .filter .stale) (correction-opened-afresh b h e .2)
-      go false h = ap (λ (t : Stepped). t .filter .stale) (correction-opened b h e)
+      go : (t : Bool) → s .track .stale ≡ t → step f s (setting (open-correction b)) .filter .track .stale ≡ s .track .stale
+      go true h = ap (λ (t : Stepped). t .filter .track .stale) (correction-opened-afresh b h e .2)
+      go false h = ap (λ (t : Stepped). t .filter .track .stale) (correction-opened b h e)
 
   -- points and weights stay, refused or not
-  pub setting-keeps : (c : SetCall) → (step f s (setting c) .filter .weights ≡ s .weights) × (step f s (setting c) .filter .points ≡ s .points)
-  setting-keeps c = step-cases f s (setting c) (λ t. (t .weights ≡ s .weights) × (t .points ≡ s .points)) (refl, refl) (λ d o g n. rw (o .1) (keeps (o .0)))
+  abbrev pub PointsStay : Filter → Type 0
+  PointsStay t = (t .track .weights ≡ s .track .weights) × (t .track .points ≡ s .track .points)
+
+  pub writing-keeps : (c : SheetCall) → PointsStay (step f s (writing c) .filter)
+  writing-keeps c = step-cases f s (writing c) PointsStay (refl, refl) (λ d o g n. rw (o .1) (keeps (o .0)))
     where
-      keeps : (u : Setting) → (set s u .weights ≡ s .weights) × (set s u .points ≡ s .points)
-      keeps (x-set v) = (refl, refl)
-      keeps (p-set v) = (refl, refl)
+      keeps : (u : Writing) → PointsStay (changed s (writes u))
       keeps (q-set v) = (refl, refl)
       keeps (params-set v) = (refl, refl)
       keeps (kinds-set v) = (refl, refl)
+
+  pub setting-keeps : (c : SetCall) → PointsStay (step f s (setting c) .filter)
+  setting-keeps c = step-cases f s (setting c) PointsStay (refl, refl) (λ d o g n. rw (o .1) (keeps (o .0)))
+    where
+      keeps : (u : Setting) → PointsStay (changed s (sets u))
+      keeps (x-set v) = (refl, refl)
+      keeps (p-set v) = (refl, refl)
       keeps (opened-prediction d) = (refl, refl)
       keeps (opened-correction d) = (refl, refl)

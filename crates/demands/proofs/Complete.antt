@@ -74,6 +74,16 @@ use Rattle.correction.proofs.correct_with_weights_residuals.Kinds as correct-wi
 use Rattle.correction.proofs.correct_with_weights_residuals.Reads as correct-with-weights-residuals
 use Rattle.correction.proofs.flat.correct_nonlinear.Kinds as correct-nonlinear-of
 use Rattle.correction.proofs.flat.correct_nonlinear.Reads as correct-nonlinear
+use Rattle.filter.proofs.Sheet.new.Kinds as new-sheet-of
+use Rattle.filter.proofs.Sheet.new.Reads as new-sheet
+use Rattle.filter.proofs.Track.new.Kinds as new-track-of
+use Rattle.filter.proofs.Track.new.Reads as new-track
+use Rattle.filter.proofs.new.empty_sheet.Kinds as empty-sheet-of
+use Rattle.filter.proofs.new.empty_sheet.Reads as empty-sheet
+use Rattle.filter.proofs.new.empty_track.Kinds as empty-track-of
+use Rattle.filter.proofs.new.empty_track.Reads as empty-track
+use Rattle.filter.proofs.new.sooner.Kinds as sooner-of
+use Rattle.filter.proofs.new.sooner.Reads as sooner
 use Rattle.filter.proofs.Filter.new.Kinds as new-of
 use Rattle.filter.proofs.Filter.new.Reads as new
 use Rattle.filter.proofs.Filter.set_x.Kinds as set-x-of
@@ -170,7 +180,7 @@ module _ {n : ℕ} (ps : List (PK n)) (r : RK n) (Says : Out n ps r) where
       → Allows κs a z w → Allows κs a z′ w′ → (ptr (part κs z) ≡ ptr (part κs z′)) × (now (part κs z) ≡ now (part κs z′)) × (w ≡ w′)
 
 -- p and q: each of two is what the definition says
-by : {A : Type 0} {x y d : A} → x ≡ d → y ≡ d → x ≡ y
+pub by : {A : Type 0} {x y d : A} → x ≡ d → y ≡ d → x ≡ y
 by p q = p ∙ sym q
 
 -- the one lent buffer, after self
@@ -268,6 +278,21 @@ correct-with-weights-residuals-one κs a z z′ w w′ p q = (by p q, refl)
 
 pub correct-nonlinear-one : OneAnswer correct-nonlinear-of.ps correct-nonlinear-of.r correct-nonlinear.Learnt
 correct-nonlinear-one κs a z z′ w w′ p q = (by p q, refl)
+
+pub new-sheet-one : OneAnswer new-sheet-of.ps new-sheet-of.r new-sheet.Learnt
+new-sheet-one κs a z z′ w w′ p q = (by p q, refl)
+
+pub new-track-one : OneAnswer new-track-of.ps new-track-of.r new-track.Learnt
+new-track-one κs a z z′ w w′ p q = (by p q, refl)
+
+pub empty-sheet-one : OneAnswer empty-sheet-of.ps empty-sheet-of.r empty-sheet.Learnt
+empty-sheet-one κs a z z′ w w′ p q = (by p q, refl)
+
+pub empty-track-one : OneAnswer empty-track-of.ps empty-track-of.r empty-track.Learnt
+empty-track-one κs a z z′ w w′ p q = (by p q, refl)
+
+pub sooner-one : OneAnswer sooner-of.ps sooner-of.r sooner.Learnt
+sooner-one κs a z z′ w w′ p q = (by p q, refl)
 
 pub new-one : OneAnswer new-of.ps new-of.r new.Learnt
 new-one κs a z z′ w w′ p q = (by p q, refl)

@@ -2,7 +2,7 @@
 use Prim.Native.Nat.{ℕ, _≤_}
 use mathlib.Core.Path.{_≡_, refl}
 use mathlib.Core.Bool.{true, false, cond}
-use mathlib.Core.List.{List, []}
+use mathlib.Core.List.{List, [], _∷_}
 use mathlib.Core.Logic.{_↔_, _≢_, _⊎_}
 use lib.ListN.{length, take}
 use lib.Ieee.{Float, Format, add}
@@ -21,7 +21,7 @@ use Rattle.filter.specs.declared.Filter.{Filter}
 use Rattle.filter.specs.Filters.{seen}
 use Rattle.filter.specs.Calls.{Call, setting, closing, open-prediction, open-correction, close-prediction, close-correction, close-correction-flat, fits, asks, plan, weightedFrom, flatFrom}
 use Rattle.filter.specs.Steps.{step, paramsRead, staleRead}
-use Rattle.filter.specs.New.{empty, newAsks, newAnswer}
+use Rattle.filter.specs.New.{empty, from, newAsks, newAnswer}
 use Rattle.filter.specs.Point.{pointAsks, pointRefusal, pointOf}
 use Rattle.demands.specs.Rows.{Some, NotFinite, NotAbove, Below, OutOfRange, IsTurn, IsFlat, Measurable, UnfitTurn, FirstFails, Cause, Applies, Due, ByStep, Neither}
 use Rattle.demands.specs.Listed.{listedAtOpen, listedAtPrediction, listedAtCorrection}
@@ -51,10 +51,10 @@ module _ (f : Format) where
   taken-when = taken-exactly f
 
   -- The same of New, which has no steps,
-  pub new-exactly-when : (n : ℕ) (x p q : List Float) (params : Params) (r : Refusal) → (newAnswer f n x p q params .refusal ≡ number r) ↔ Due f (newAsks f n x p q params) [] r
+  pub new-exactly-when : (n : ℕ) (x p q : List Float) (params : Params) (r : Refusal) → (newAnswer f n x p q params .refusal ≡ number r) ↔ Due f (newAsks n (from x p ∷ []) q params) [] r
   new-exactly-when = new-exactly f
 
-  pub new-taken-when : (n : ℕ) (x p q : List Float) (params : Params) → (newAnswer f n x p q params .refusal ≡ 0) ↔ ((d : Cause) → Applies f (newAsks f n x p q params) [] d → ⊥)
+  pub new-taken-when : (n : ℕ) (x p q : List Float) (params : Params) → (newAnswer f n x p q params .refusal ≡ 0) ↔ ((d : Cause) → Applies f (newAsks n (from x p ∷ []) q params) [] d → ⊥)
   new-taken-when = new-taken f
 
   -- of point k of a lent list,
@@ -89,17 +89,17 @@ module _ (f : Format) where
   kind-taken-when = kind-taken f
 
   -- So 3 is given exactly when the call doesn't fit what is open, and n outside 1 to 8 gets 1 from every call that 3 doesn't stop.
-  pub stage-when : (s : Filter) (c : Call) → (step f s c .reply .refusal ≡ number STAGE) ↔ (fits c (s .stage) ≡ false)
+  pub stage-when : (s : Filter) (c : Call) → (step f s c .reply .refusal ≡ number STAGE) ↔ (fits c (s .track .stage) ≡ false)
   stage-when = stage-exactly f
 
-  pub size-when : (s : Filter) (c : Call) → OutOfRange (record { value = s .n; from = 1; to = 8 }) → fits c (s .stage) ≡ true → step f s c .reply .refusal ≡ number SIZE
+  pub size-when : (s : Filter) (c : Call) → OutOfRange (record { value = s .sheet .n; from = 1; to = 8 }) → fits c (s .track .stage) ≡ true → step f s c .reply .refusal ≡ number SIZE
   size-when = states-first f
 
   -- 10 is given by the flat close alone, and exactly when a correction is open, there are 1 to 8 states and 1 to 4 measurements, the slices are long enough and their numbers finite, and one of the first n kinds is a turn.
   pub kind-by-flat-alone : (s : Filter) (c : Call) → step f s c .reply .refusal ≡ number KIND → IsFlat c
   kind-by-flat-alone = kind-only f
 
-  pub kind-when : (s : Filter) (m : ℕ) (z r observed : List Float) → (step f s (closing (close-correction-flat m z r observed)) .reply .refusal ≡ number KIND) ↔ (Measurable s m z r observed × Some IsTurn (take (s .n) (s .kinds)))
+  pub kind-when : (s : Filter) (m : ℕ) (z r observed : List Float) → (step f s (closing (close-correction-flat m z r observed)) .reply .refusal ≡ number KIND) ↔ (Measurable s m z r observed × Some IsTurn (take (s .sheet .n) (s .sheet .kinds)))
   kind-when = turned-away-exactly f
 
   -- The flat close never gives 4 or 6: stale doesn't stop it, and nothing that it is lent has to pass 6.
@@ -109,15 +109,15 @@ module _ (f : Format) where
   -- ---- the steps' own numbers: the first result that fails, of those that document 01 lists, in its order
 
   -- Open: each factor entry as it is made, then all points; not stale, an open correction has none.
-  pub listed-at-open-prediction : (s : Filter) (b : List Float) → planned (plan f s (setting (open-prediction b))) ≡ listedAtOpen f (s .n) (s .x) (s .p) (scaleOf f (s .n) (s .params))
+  pub listed-at-open-prediction : (s : Filter) (b : List Float) → planned (plan f s (setting (open-prediction b))) ≡ listedAtOpen f (s .sheet .n) (s .track .x) (s .track .p) (scaleOf f (s .sheet .n) (s .sheet .params))
   listed-at-open-prediction = open-prediction-lists f
 
-  pub listed-at-open-correction : (s : Filter) (b : List Float) → planned (plan f s (setting (open-correction b))) ≡ cond (s .stale) (listedAtOpen f (s .n) (s .x) (s .p) (scaleOf f (s .n) (s .params))) []
+  pub listed-at-open-correction : (s : Filter) (b : List Float) → planned (plan f s (setting (open-correction b))) ≡ cond (s .track .stale) (listedAtOpen f (s .sheet .n) (s .track .x) (s .track .p) (scaleOf f (s .sheet .n) (s .sheet .params))) []
   listed-at-open-correction = open-correction-lists f
 
   -- Close prediction: mean, P.
   pub listed-at-prediction : (s : Filter) (v : List Float)
-      → planned (plan f s (closing (close-prediction v))) ≡ listedAtPrediction f (s .n) (front (pointNumbers (s .n)) v (zeros 136)) (w0mOf f (s .n) (s .params)) (s .«drawn_weights») (s .kinds) (s .q)
+      → planned (plan f s (closing (close-prediction v))) ≡ listedAtPrediction f (s .sheet .n) (front (pointNumbers (s .sheet .n)) v (zeros 136)) (w0mOf f (s .sheet .n) (s .sheet .params)) (s .track .«drawn_weights») (s .sheet .kinds) (s .sheet .q)
   listed-at-prediction = close-prediction-lists f
 
   -- Close correction: z mean, S, x mean, cross covariance, then S's factor entries as made, inverse, gain, y, x, P.

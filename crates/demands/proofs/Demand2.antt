@@ -52,7 +52,7 @@ use Rattle.filter.specs.declared.Filter.{Filter}
 use Rattle.filter.specs.declared.Stage.{Stage}
 use Rattle.filter.specs.declared.Stage.the-variants.{Predicting, Correcting}
 use Rattle.filter.specs.declared.Weighted.{Weighted}
-use Rattle.filter.specs.Filters.{withDrawn, closedWith}
+use Rattle.filter.specs.Filters.{filter, withDrawn, closedWith}
 use Rattle.filter.specs.Calls.{SetCall, setting, closing, open-prediction, open-correction, close-prediction, close-correction, close-correction-flat, weightedFrom, flatFrom}
 use Rattle.filter.specs.Steps.{step}
 use Rattle.demands.specs.Listed.{innovation, state, covariance}
@@ -277,49 +277,49 @@ module _ (f : Format) where
     of-r = front (m * m) r (zeros 64)
 
     abbrev of-observed : List Float
-    of-observed = front ((s .n + s .n + 1) * m) observed (zeros 136)
+    of-observed = front ((s .sheet .n + s .sheet .n + 1) * m) observed (zeros 136)
 
     pub correction-from : (kinds : List Kind)
-        → weightedFrom f s m z r kinds observed ≡ weightedHead f (given (s .n) m (s .x) (s .p) (s .«drawn_points») of-observed (w0mOf f (s .n) (s .params)) (s .«drawn_weights») of-z of-r (s .kinds) (widened kinds))
+        → weightedFrom f s m z r kinds observed ≡ weightedHead f (given (s .sheet .n) m (s .track .x) (s .track .p) (s .track .«drawn_points») of-observed (w0mOf f (s .sheet .n) (s .sheet .params)) (s .track .«drawn_weights») of-z of-r (s .sheet .kinds) (widened kinds))
     correction-from kinds = refl
 
-    pub flat-correction-from : flatFrom f s m z r observed ≡ flatHead f (s .n) m (s .x) (s .p) (s .«drawn_points») of-observed of-z of-r
+    pub flat-correction-from : flatFrom f s m z r observed ≡ flatHead f (s .sheet .n) m (s .track .x) (s .track .p) (s .track .«drawn_points») of-observed of-z of-r
     flat-correction-from = refl
 
   -- An accepted open leaves the filter as it was, with what it has drawn beside it (`withDrawn` of filter/specs/Filters.antt), and hands out those points (the reply's `stale` says something only where the mark is read):
   module _ (s : Filter) (b : List Float) where
     abbrev Opens : SetCall → Stage → Weighted → Type 0
-    Opens c t d = step f s (setting c) ≡ record { filter = withDrawn s t d; reply = record { refusal = 0; given = take (pointNumbers (s .n)) (d .points); stale = true } }
+    Opens c t d = step f s (setting c) ≡ record { filter = filter (s .sheet) (withDrawn (s .track) t d); reply = record { refusal = 0; given = take (pointNumbers (s .sheet .n)) (d .points); stale = true } }
 
     -- a prediction, and a correction while stale, the points v that the draw from x and P gives by the parameters, with their weights;
     abbrev Draws : SetCall → Stage → Type 0
-    Draws c t = (v : List Float) × (run (drawPlan f (s .n) (s .x) (s .p) (scaleOf f (s .n) (s .params))) ≡ accepted v) × Opens c t (record { weights = weightsOf f (s .n) (s .params); points = v })
+    Draws c t = (v : List Float) × (run (drawPlan f (s .sheet .n) (s .track .x) (s .track .p) (scaleOf f (s .sheet .n) (s .sheet .params))) ≡ accepted v) × Opens c t (record { weights = weightsOf f (s .sheet .n) (s .sheet .params); points = v })
 
     pub prediction-opens : step f s (setting (open-prediction b)) .reply .refusal ≡ 0 → Draws (open-prediction b) Predicting
     prediction-opens = prediction-opened f s b
 
-    pub stale-correction-opens : s .stale ≡ true → step f s (setting (open-correction b)) .reply .refusal ≡ 0 → Draws (open-correction b) Correcting
+    pub stale-correction-opens : s .track .stale ≡ true → step f s (setting (open-correction b)) .reply .refusal ≡ 0 → Draws (open-correction b) Correcting
     stale-correction-opens = correction-opened-afresh f s b
 
     -- a correction while not stale the current ones.
-    pub correction-opens : s .stale ≡ false → step f s (setting (open-correction b)) .reply .refusal ≡ 0 → Opens (open-correction b) Correcting (record { weights = s .weights; points = s .points })
+    pub correction-opens : s .track .stale ≡ false → step f s (setting (open-correction b)) .reply .refusal ≡ 0 → Opens (open-correction b) Correcting (record { weights = s .track .weights; points = s .track .points })
     correction-opens = correction-opened f s b
 
   -- An accepted close sets x and P to what its steps have made, installs points and the opened weights, sets the mark, and leaves nothing open and scratch at +0 (`closedWith` of filter/specs/Filters.antt):
   -- a prediction the propagated points, and it is not stale;
   pub prediction-installs : (s : Filter) (v : List Float) → step f s (closing (close-prediction v)) .reply .refusal ≡ 0
       → step f s (closing (close-prediction v)) .filter
-      ≡ (let points = front (pointNumbers (s .n)) v (zeros 136) in
-      let mean = meanOf f points (s .n) (s .n + s .n) (w0mOf f (s .n) (s .params)) (s .«drawn_weights») (s .kinds) in
-      let dx = deviationsOf f points (s .n) (s .n + s .n) mean (s .kinds) in
-      closedWith s points false mean (plusOf f (s .n * s .n) (s .q) (spreadOf f dx (s .n) dx (s .n) (s .«drawn_weights») (s .n + s .n))))
+      ≡ (let points = front (pointNumbers (s .sheet .n)) v (zeros 136) in
+      let mean = meanOf f points (s .sheet .n) (s .sheet .n + s .sheet .n) (w0mOf f (s .sheet .n) (s .sheet .params)) (s .track .«drawn_weights») (s .sheet .kinds) in
+      let dx = deviationsOf f points (s .sheet .n) (s .sheet .n + s .sheet .n) mean (s .sheet .kinds) in
+      closedWith s points false mean (plusOf f (s .sheet .n * s .sheet .n) (s .sheet .q) (spreadOf f dx (s .sheet .n) dx (s .sheet .n) (s .track .«drawn_weights») (s .sheet .n + s .sheet .n))))
   prediction-installs = prediction-closed f
 
   -- a correction of either sort the opened points, and it is stale.
   pub correction-installs : (s : Filter) (m : ℕ) (z r : List Float) (kinds : List Kind) (observed : List Float) → step f s (closing (close-correction m z r kinds observed)) .reply .refusal ≡ 0
-      → step f s (closing (close-correction m z r kinds observed)) .filter ≡ (let h = weightedFrom f s m z r kinds observed in closedWith s (s .«drawn_points») true (state f h) (covariance f h))
+      → step f s (closing (close-correction m z r kinds observed)) .filter ≡ (let h = weightedFrom f s m z r kinds observed in closedWith s (s .track .«drawn_points») true (state f h) (covariance f h))
   correction-installs = correction-closed f
 
   pub flat-correction-installs : (s : Filter) (m : ℕ) (z r observed : List Float) → step f s (closing (close-correction-flat m z r observed)) .reply .refusal ≡ 0
-      → step f s (closing (close-correction-flat m z r observed)) .filter ≡ (let h = flatFrom f s m z r observed in closedWith s (s .«drawn_points») true (state f h) (covariance f h))
+      → step f s (closing (close-correction-flat m z r observed)) .filter ≡ (let h = flatFrom f s m z r observed in closedWith s (s .track .«drawn_points») true (state f h) (covariance f h))
   flat-correction-installs = flat-correction-closed f

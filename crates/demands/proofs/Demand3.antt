@@ -20,5 +20,5 @@ module _ (f : Format) where
   same-rest k = striking f k
 
   -- For an open call, abandoned, leaves the filter as it was in every bit but scratch, which is +0.
-  pub abandon-restores : (s : Filter) (c : Call) (mid : List Call) → isShut (s .stage) ≡ true → StaysOpen f (step f s c .filter) mid → ranTo f s (c ∷ mid ++ (abandon ∷ [])) ≡ abandoned s
+  pub abandon-restores : (s : Filter) (c : Call) (mid : List Call) → isShut (s .track .stage) ≡ true → StaysOpen f (step f s c .filter) mid → ranTo f s (c ∷ mid ++ (abandon ∷ [])) ≡ abandoned s
   abandon-restores = opening-abandoned f

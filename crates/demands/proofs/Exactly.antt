@@ -26,7 +26,7 @@ use Rattle.filter.specs.Asked.{Asks, within, long, fit, every, guarded}
 use Rattle.filter.specs.Filters.{seen}
 use Rattle.filter.specs.Calls.{Call, asks, Done, plan}
 use Rattle.filter.specs.Steps.{outcome, stepped, step, paramsOf, paramsRead, staleRead}
-use Rattle.filter.specs.New.{empty, newAsks, newOf, newAnswer}
+use Rattle.filter.specs.New.{empty, from, newAsks, newOf, newAnswer}
 use Rattle.filter.specs.Point.{pointAsks, pointAt, pointRefusal, pointOf}
 use Rattle.demands.specs.Rows.{Some, here, there, NotFinite, NotAbove, Below, OutOfRange, Shorter, IsTurn, UnfitTurn, Unfit, FirstFails, Cause, stage, size, short, stale, met, gives, Applies, place, Due}
 use Rattle.demands.specs.Rows as Row
@@ -89,7 +89,7 @@ one-first (Row.now b) (Row.later n w) = absurd (n b)
 one-first (Row.later n w) (Row.now b) = absurd (n b)
 one-first (Row.later n w) (Row.later m u) = one-first w u
 
-no-first : (r : Refusal) → FirstFails r [] → ⊥
+pub no-first : (r : Refusal) → FirstFails r [] → ⊥
 no-first r w = elim w [ ]
 
 -- an outcome that is the results' own: refused by the first that fails, accepted where none does
@@ -211,7 +211,7 @@ module _ (f : Format) (a : Asks) (vs : List Result) where
 
 -- ---- EXACTLY WHEN: every call, New, and point k of a list
 
-stepped-number : (s : Filter) (o : Outcome Done) → stepped s o .reply .refusal ≡ refusal o
+pub stepped-number : (s : Filter) (o : Outcome Done) → stepped s o .reply .refusal ≡ refusal o
 stepped-number s (refused r) = refl
 stepped-number s (accepted d) = refl
 
@@ -228,13 +228,13 @@ module _ (f : Format) where
     taken-exactly = rw step-number (guarded-taken f (asks (seen s) c) (planned (plan f (seen s) c)) (run (plan f (seen s) c)) (plan-ends (plan f (seen s) c)))
 
   module _ (n : ℕ) (x p q : List Float) (params : Params) where
-    pub new-exactly : (r : Refusal) → (newAnswer f n x p q params .refusal ≡ number r) ↔ Due f (newAsks f n x p q params) [] r
+    pub new-exactly : (r : Refusal) → (newAnswer f n x p q params .refusal ≡ number r) ↔ Due f (newAsks n (from x p ∷ []) q params) [] r
     unfolding newOf
-    new-exactly r = guarded-exactly f (newAsks f n x p q params) [] (accepted _) no-first r
+    new-exactly r = guarded-exactly f (newAsks n (from x p ∷ []) q params) [] (accepted _) no-first r
 
-    pub new-taken : (newAnswer f n x p q params .refusal ≡ 0) ↔ ((c : Cause) → Applies f (newAsks f n x p q params) [] c → ⊥)
+    pub new-taken : (newAnswer f n x p q params .refusal ≡ 0) ↔ ((c : Cause) → Applies f (newAsks n (from x p ∷ []) q params) [] c → ⊥)
     unfolding newOf
-    new-taken = guarded-taken f (newAsks f n x p q params) [] (accepted _) no-first
+    new-taken = guarded-taken f (newAsks n (from x p ∷ []) q params) [] (accepted _) no-first
 
   module _ (l : List Float) (n k : ℕ) where
     pub point-exactly : (r : Refusal) → (pointRefusal f l n k ≡ number r) ↔ Due f (pointAsks f l n k) [] r
@@ -308,11 +308,11 @@ module _ (f : Format) where
 
 -- ---- a result or one of the refusals; and what is refused changes nothing and hands out nothing
 
-one-of : {A : Type 0} (o : Outcome A) → (refusal o ≡ 0) ⊎ ((r : Refusal) × (refusal o ≡ number r))
+pub one-of : {A : Type 0} (o : Outcome A) → (refusal o ≡ 0) ⊎ ((r : Refusal) × (refusal o ≡ number r))
 one-of (refused r) = inr (r, refl)
 one-of (accepted a) = inl refl
 
-unchanged : (s : Filter) (o : Outcome Done) → stepped s o .reply .refusal ≢ 0 → (stepped s o .filter ≡ s) × (stepped s o .reply .given ≡ []) × (stepped s o .reply .stale ≡ true)
+pub unchanged : (s : Filter) (o : Outcome Done) → stepped s o .reply .refusal ≢ 0 → (stepped s o .filter ≡ s) × (stepped s o .reply .given ≡ []) × (stepped s o .reply .stale ≡ true)
 unchanged s (refused r) h = (refl, refl, refl)
 unchanged s (accepted d) h = absurd (h refl)
 

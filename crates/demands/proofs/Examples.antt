@@ -28,7 +28,7 @@ use Rattle.demands.specs.Runs.{Told, tells, told, ranTo, Alike, Struck, 
 use Rattle.demands.specs.Sound.{Yielded, fresh-made, put-at-will}
 use Rattle.demands.specs.Written.{int, frac, _is_, _are_, failing}
 use Rattle.demands.specs.Cases.{at-first, c1, three, measuring, story, against, callCases}
-use Rattle.demands.specs.Useless.{right, ExactlyWhen, toldBy, tableBy, NothingLeftOver, refusing, constant, untouched, firstOnly, at-will}
+use Rattle.demands.specs.Useless.{right, ExactlyWhen, toldBy, tableBy, NothingLeftOver, refusing, constant, untouched, firstOnly, at-will, leftovers}
 use Rattle.demands.proofs.Rows.{two-ways}
 use Rattle.demands.proofs.Exactly.{exactly}
 use Rattle.demands.proofs.Leftover.{nothing-left-over}
@@ -37,16 +37,13 @@ use Rattle.demands.proofs.Leftover.{nothing-left-over}
 
 pub alike : Alike at-first at-will
 unfolding newOf allFinite aboveZero lt weightsPass lambdaOf scaleOf w0mOf w0cOf wiOf ofInt add sub mul div inRange
-alike = record { n = refl; x = refl; p = refl; q = refl; params = refl; kinds = refl; stale₁ = refl; stale₂ = refl; shut₁ = refl; shut₂ = refl }
+alike = record { sheet = refl; track = record { x = refl; p = refl; stale₁ = refl; stale₂ = refl; shut₁ = refl; shut₂ = refl } }
 
 -- the second is one that the demands speak of
 pub at-will-yielded : Yielded binary64 at-will
 at-will-yielded = put-at-will at-will (fresh-made 1 (int 2 ∷ []) (int 4 ∷ []) (int 1 ∷ []) c1) alike
 
 -- ---- what is computed
-
-abbrev leftovers : Filter → List Float
-leftovers s = take 1 (s .points) ++ (take 1 (s .weights) ++ (take 1 (s .«drawn_points») ++ take 1 (s .«drawn_weights»)))
 
 abbrev predicted : Float → Float → Float → List Call
 predicted a b c = setting (open-prediction three) ∷ closing (close-prediction (a ∷ b ∷ c ∷ [])) ∷ []
@@ -66,14 +63,14 @@ drew (t ∷ ts) = t .reply .given are (int 2 ∷ int 4 ∷ int 0 ∷ [])
 
 pub record Computed : Type 0 where
   -- the leftovers of the two differ: points, weights, and scratch
-  pub first-left : (leftovers at-first are (int 0 ∷ int 0 ∷ int 0 ∷ int 0 ∷ [])) ≡ true
-  pub will-left : (leftovers at-will are (int 3 ∷ int 7 ∷ int 6 ∷ int 5 ∷ [])) ≡ true
+  pub first-left : (leftovers (at-first .track) are (int 0 ∷ int 0 ∷ int 0 ∷ int 0 ∷ [])) ≡ true
+  pub will-left : (leftovers (at-will .track) are (int 3 ∷ int 7 ∷ int 6 ∷ int 7 ∷ [])) ≡ true
   -- what a run tells is not constant: two predictions on one filter that end at different x
   pub ends-at-2 : (lastX (told binary64 at-will (predicted (int 2) (int 4) (int 0))) are (int 2 ∷ [])) ≡ true
   pub ends-at-3 : (lastX (told binary64 at-will (predicted (int 3) (int 5) (int 1))) are (int 3 ∷ [])) ≡ true
   -- calls lead to filters that aren't stale, and to such with a correction open
-  pub in-use : ranTo binary64 at-first (predicted (int 2) (int 4) (int 0)) .stale ≡ false
-  pub still-open : isCorrecting (ranTo binary64 at-first (predicted (int 2) (int 4) (int 0) ++ (setting (open-correction three) ∷ [])) .stage) ≡ true
+  pub in-use : ranTo binary64 at-first (predicted (int 2) (int 4) (int 0)) .track .stale ≡ false
+  pub still-open : isCorrecting (ranTo binary64 at-first (predicted (int 2) (int 4) (int 0) ++ (setting (open-correction three) ∷ [])) .track .stage) ≡ true
   -- a reading of the stale mark is taken
   pub read-taken : step binary64 at-first (reading read-stale) .reply .refusal ≡ 0
   -- the table fails for constant numbers at C9, for a filter handed back untouched at C9, and for a redraw at the first correction only at C11 and again at the next draw

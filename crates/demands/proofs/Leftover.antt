@@ -7,14 +7,16 @@ use lib.Ieee.{Format}
 use Rattle.floats.specs.Numbers.{allFinite}
 use Rattle.floats.specs.Refusal.{Outcome, refused, accepted}
 use Rattle.matrix.specs.Results.{run}
+use Rattle.filter.specs.declared.Sheet.{Sheet}
+use Rattle.filter.specs.declared.Track.{Track}
 use Rattle.filter.specs.declared.Filter.{Filter}
 use Rattle.filter.specs.declared.Stage.{Stage}
 use Rattle.filter.specs.declared.Stage.the-variants.{Shut, Predicting, Correcting}
 use Rattle.filter.specs.Asked.{within, inRange}
-use Rattle.filter.specs.Filters.{isShut, seen, Setting, x-set, p-set, q-set, params-set, kinds-set, opened-prediction, opened-correction, Change, sets, closes, abandons, reads, set, abandoned, changed}
-use Rattle.filter.specs.Calls.{Call, setting, closing, abandon, reading, fits, asks, Done, plan}
+use Rattle.filter.specs.Filters.{filter, isShut, seenOf, seen, Writing, q-set, params-set, kinds-set, Setting, x-set, p-set, opened-prediction, opened-correction, Change, writes, sets, closes, abandons, reads, marked, set, shut, sheetAfter, trackAfter, changed, abandoned}
+use Rattle.filter.specs.Calls.{Call, writing, setting, closing, abandon, reading, fits, asks, Done, plan}
 use Rattle.filter.specs.Steps.{outcome, Reply, stepped, step}
-use Rattle.demands.specs.Runs.{tells, told, ranTo, Alike, StaysOpen, Struck, none-left, call-kept, refused-struck, opening-struck, rest}
+use Rattle.demands.specs.Runs.{tells, told, ranTo, AlikeTracks, Alike, StaysOpen, Struck, none-left, call-kept, refused-struck, opening-struck, rest}
 use Rattle.demands.proofs.Rows.{two-ways}
 use Rattle.demands.proofs.Exactly.{refused-nothing}
 use Rattle.demands.proofs.Passed.{Pass, by-cases, run-cases}
@@ -30,24 +32,33 @@ seen-twice : (s : Filter) → seen (seen s) ≡ seen s
 seen-twice s = simp cond-twice
 
 -- each change reads of a filter what is seen
-set-seen : (s : Filter) (c : Setting) → seen (set s c) ≡ seen (set (seen s) c)
-set-seen s (x-set v) = simp cond-twice
-set-seen s (p-set v) = simp cond-twice
-set-seen s (q-set v) = simp cond-twice
-set-seen s (params-set v) = simp cond-twice
-set-seen s (kinds-set v) = simp cond-twice
-set-seen s (opened-prediction d) = simp cond-twice
-set-seen s (opened-correction d) = simp cond-twice
+marked-seen : (t : Track) (c : Writing) → seenOf (marked t c) ≡ seenOf (marked (seenOf t) c)
+marked-seen t (q-set v) = simp cond-twice
+marked-seen t (params-set v) = simp cond-twice
+marked-seen t (kinds-set v) = simp cond-twice
+
+set-seen : (t : Track) (c : Setting) → seenOf (set t c) ≡ seenOf (set (seenOf t) c)
+set-seen t (x-set v) = simp cond-twice
+set-seen t (p-set v) = simp cond-twice
+set-seen t (opened-prediction d) = simp cond-twice
+set-seen t (opened-correction d) = simp cond-twice
+
+track-seen : (t : Track) (c : Change) → seenOf (trackAfter t c) ≡ seenOf (trackAfter (seenOf t) c)
+track-seen t (writes c) = marked-seen t c
+track-seen t (sets c) = set-seen t c
+track-seen t (closes c) = refl
+track-seen t abandons = simp cond-twice
+track-seen t reads = simp cond-twice
 
 changed-seen : (s : Filter) (c : Change) → seen (changed s c) ≡ seen (changed (seen s) c)
-changed-seen s (sets c) = set-seen s c
-changed-seen s (closes c) = refl
-changed-seen s abandons = simp cond-twice
-changed-seen s reads = sym (seen-twice s)
+changed-seen s c = ap (filter (sheetAfter (s .sheet) c)) (track-seen (s .track) c)
+
+pub alike-seen : (s t : Track) → AlikeTracks s t → seenOf s ≡ seenOf t
+alike-seen s t a = simp (a .x, a .p, a .stale₁, a .stale₂, a .shut₁, a .shut₂)
 
 -- ---- a step
 
-stepped-reply : (s t : Filter) (o : Outcome Done) → stepped s o .reply ≡ stepped t o .reply
+pub stepped-reply : (s t : Filter) (o : Outcome Done) → stepped s o .reply ≡ stepped t o .reply
 stepped-reply s t (refused r) = refl
 stepped-reply s t (accepted d) = refl
 
@@ -68,10 +79,10 @@ module _ (f : Format) where
     same-reply : step f s c .reply ≡ step f t c .reply
     same-reply = step-reply s c ∙ ap (λ (u : Filter). step f u c .reply) e ∙ sym (step-reply t c)
 
-    same-seen : seen (step f s c .filter) ≡ seen (step f t c .filter)
+    pub same-seen : seen (step f s c .filter) ≡ seen (step f t c .filter)
     same-seen = step-seen s c ∙ ap (λ (u : Filter). seen (step f u c .filter)) e ∙ sym (step-seen t c)
 
-    same-told : tells (step f s c) ≡ tells (step f t c)
+    pub same-told : tells (step f s c) ≡ tells (step f t c)
     unfolding tells
     same-told = ap₂ (λ (r : Reply) (u : Filter). tells (record { filter = u; reply = r })) same-reply same-seen
 
@@ -84,7 +95,7 @@ module _ (f : Format) where
 
   -- NOTHING LEFT OVER COUNTS
   pub nothing-left-over : (s t : Filter) → Alike s t → (cs : List Call) → told f s cs ≡ told f t cs
-  nothing-left-over s t a cs = same-run s t (simp (a .n, a .x, a .p, a .q, a .params, a .kinds, a .stale₁, a .stale₂, a .shut₁, a .shut₂)) cs
+  nothing-left-over s t a cs = same-run s t (ap₂ filter (a .sheet) (alike-seen (s .track) (t .track) (a .track))) cs
 
 -- ---- what is open
 
@@ -94,40 +105,31 @@ shut-is Predicting h = absurd (two-ways h refl)
 shut-is Correcting h = absurd (two-ways h refl)
 
 -- with nothing open, scratch is all that an abandoned filter differs in
-abandoned-seen : (s : Filter) → isShut (s .stage) ≡ true → seen (abandoned s) ≡ seen s
-abandoned-seen s h = rw (shut-is (s .stage) h)
+pub abandoned-seen : (s : Filter) → isShut (s .track .stage) ≡ true → seen (abandoned s) ≡ seen s
+abandoned-seen s h = rw (shut-is (s .track .stage) h)
 
--- a setting that opens something, abandoned
-setting-abandoned : (s : Filter) (c : Setting) → isShut (s .stage) ≡ true → isShut (set s c .stage) ≡ false → abandoned (set s c) ≡ abandoned s
-setting-abandoned s (x-set v) h k = absurd (two-ways h k)
-setting-abandoned s (p-set v) h k = absurd (two-ways h k)
-setting-abandoned s (q-set v) h k = absurd (two-ways h k)
-setting-abandoned s (params-set v) h k = absurd (two-ways h k)
-setting-abandoned s (kinds-set v) h k = absurd (two-ways h k)
-setting-abandoned s (opened-prediction d) h k = refl
-setting-abandoned s (opened-correction d) h k = refl
+-- a change that opens something, where nothing was open, is one of the track alone; abandoned, it is undone
+marked-shut : (t : Track) (c : Writing) → isShut (t .stage) ≡ true → isShut (marked t c .stage) ≡ true
+marked-shut t (q-set v) h = h
+marked-shut t (params-set v) h = h
+marked-shut t (kinds-set v) h = h
 
-kept-n : (s : Filter) (c : Change) → changed s c .n ≡ s .n
-kept-n s (sets (x-set v)) = refl
-kept-n s (sets (p-set v)) = refl
-kept-n s (sets (q-set v)) = refl
-kept-n s (sets (params-set v)) = refl
-kept-n s (sets (kinds-set v)) = refl
-kept-n s (sets (opened-prediction d)) = refl
-kept-n s (sets (opened-correction d)) = refl
-kept-n s (closes c) = refl
-kept-n s abandons = refl
-kept-n s reads = refl
+setting-abandoned : (t : Track) (c : Setting) → isShut (t .stage) ≡ true → isShut (set t c .stage) ≡ false → shut (set t c) ≡ shut t
+setting-abandoned t (x-set v) h k = absurd (two-ways h k)
+setting-abandoned t (p-set v) h k = absurd (two-ways h k)
+setting-abandoned t (opened-prediction d) h k = refl
+setting-abandoned t (opened-correction d) h k = refl
 
--- a change that opens something, where nothing was open
-opened-abandoned : (s : Filter) (c : Change) → isShut (s .stage) ≡ true → isShut (changed s c .stage) ≡ false → abandoned (changed s c) ≡ abandoned s
-opened-abandoned s (sets c) h k = setting-abandoned s c h k
+opened-abandoned : (s : Filter) (c : Change) → isShut (s .track .stage) ≡ true → isShut (changed s c .track .stage) ≡ false → (abandoned (changed s c) ≡ abandoned s) × (changed s c .sheet ≡ s .sheet)
+opened-abandoned s (writes c) h k = absurd (two-ways (marked-shut (s .track) c h) k)
+opened-abandoned s (sets c) h k = (ap (filter (s .sheet)) (setting-abandoned (s .track) c h k), refl)
 opened-abandoned s (closes c) h k = absurd (two-ways refl k)
 opened-abandoned s abandons h k = absurd (two-ways refl k)
 opened-abandoned s reads h k = absurd (two-ways h k)
 
 -- a change of a call that fits, where something is open before and after it
-open-unchanged : (s : Filter) (c : Call) (d : Change) → Own c d → fits c (s .stage) ≡ true → isShut (s .stage) ≡ false → isShut (changed s d .stage) ≡ false → changed s d ≡ s
+open-unchanged : (s : Filter) (c : Call) (d : Change) → Own c d → fits c (s .track .stage) ≡ true → isShut (s .track .stage) ≡ false → isShut (changed s d .track .stage) ≡ false → changed s d ≡ s
+open-unchanged s (writing c) d o g h k = absurd (two-ways g h)
 open-unchanged s (setting c) d o g h k = absurd (two-ways g h)
 open-unchanged s (closing c) d o g h k = absurd (two-ways refl (rw (o .1) at k))
 open-unchanged s abandon d o g h k = absurd (two-ways refl (rw o at k))
@@ -135,7 +137,7 @@ open-unchanged s (reading c) d o g h k = rw o
 
 module _ (f : Format) (s : Filter) where
   -- of a step: what holds where it is refused, and of a change of the call's own sort once its line of the table is passed
-  pub step-cases : (c : Call) (P : Filter → Type 0) → P s → ((d : Change) → Own c d → fits c (s .stage) ≡ true → inRange 1 8 (s .n) ≡ true → P (changed s d)) → P (step f s c .filter)
+  pub step-cases : (c : Call) (P : Filter → Type 0) → P s → ((d : Change) → Own c d → fits c (s .track .stage) ≡ true → inRange 1 8 (s .sheet .n) ≡ true → P (changed s d)) → P (step f s c .filter)
   unfolding step
   step-cases c P left made =
       let line = regular f (seen s) c in
@@ -145,25 +147,25 @@ module _ (f : Format) (s : Filter) where
       (λ d o. made (d .change) o (sym (line .fitting) ∙ h .fits) (subst (Pass within) (line .states) (h .sizes) .0)))
 
   -- while a call is open, a call after which one still is changes nothing
-  open-same : (c : Call) → isShut (s .stage) ≡ false → isShut (step f s c .filter .stage) ≡ false → step f s c .filter ≡ s
-  open-same c h = step-cases c (λ t. isShut (t .stage) ≡ false → t ≡ s) (λ k. refl) (λ d o g n k. open-unchanged s c d o g h k)
+  pub open-same : (c : Call) → isShut (s .track .stage) ≡ false → isShut (step f s c .filter .track .stage) ≡ false → step f s c .filter ≡ s
+  open-same c h = step-cases c (λ t. isShut (t .track .stage) ≡ false → t ≡ s) (λ k. refl) (λ d o g n k. open-unchanged s c d o g h k)
 
   -- a call that opens one, where none was open
-  opens : (c : Call) → isShut (s .stage) ≡ true → isShut (step f s c .filter .stage) ≡ false
-      → (abandoned (step f s c .filter) ≡ abandoned s) × (inRange 1 8 (step f s c .filter .n) ≡ true)
+  pub opens : (c : Call) → isShut (s .track .stage) ≡ true → isShut (step f s c .filter .track .stage) ≡ false
+      → (abandoned (step f s c .filter) ≡ abandoned s) × (inRange 1 8 (step f s c .filter .sheet .n) ≡ true)
   opens c h =
-      step-cases c (λ t. isShut (t .stage) ≡ false → (abandoned t ≡ abandoned s) × (inRange 1 8 (t .n) ≡ true)) (λ k. absurd (two-ways h k))
-      (λ d o g n k. (opened-abandoned s d h k, ap (inRange 1 8) (kept-n s d) ∙ n))
+      step-cases c (λ t. isShut (t .track .stage) ≡ false → (abandoned t ≡ abandoned s) × (inRange 1 8 (t .sheet .n) ≡ true)) (λ k. absurd (two-ways h k))
+      (λ d o g n k. let e = opened-abandoned s d h k in (e .0, ap (λ (u : Sheet). inRange 1 8 (u .n)) (e .1) ∙ n))
 
   -- abandon is taken where something is open
-  abandon-open : isShut (s .stage) ≡ false → inRange 1 8 (s .n) ≡ true → step f s abandon .filter ≡ abandoned s
+  pub abandon-open : isShut (s .track .stage) ≡ false → inRange 1 8 (s .sheet .n) ≡ true → step f s abandon .filter ≡ abandoned s
   unfolding step allFinite
   abandon-open h k = simp (h, k)
 
 -- ---- striking
 
 module _ (f : Format) where
-  open-now : (s : Filter) (cs : List Call) → StaysOpen f s cs → isShut (s .stage) ≡ false
+  open-now : (s : Filter) (cs : List Call) → StaysOpen f s cs → isShut (s .track .stage) ≡ false
   open-now s [] h = h
   open-now s (c ∷ cs) h = h .0
 
@@ -178,7 +180,7 @@ module _ (f : Format) where
   ran-append s (c ∷ cs) ds = ran-append (step f s c .filter) cs ds
 
   -- AN OPEN CALL, ABANDONED: the filter is again, in every bit but scratch, what it was before; scratch is +0
-  pub opening-abandoned : (s : Filter) (c : Call) (mid : List Call) → isShut (s .stage) ≡ true → StaysOpen f (step f s c .filter) mid → ranTo f s (c ∷ mid ++ (abandon ∷ [])) ≡ abandoned s
+  pub opening-abandoned : (s : Filter) (c : Call) (mid : List Call) → isShut (s .track .stage) ≡ true → StaysOpen f (step f s c .filter) mid → ranTo f s (c ∷ mid ++ (abandon ∷ [])) ≡ abandoned s
   unfolding ranTo
   opening-abandoned s c mid h st =
       let t = step f s c .filter in

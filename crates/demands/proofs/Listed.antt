@@ -20,27 +20,27 @@ use Rattle.demands.specs.Listed.{listedAtOpen, listedAtPrediction, liste
 
 -- the steps of an opening that draws; those of the closes are `predicting` (filter/proofs/Closing.antt) and `applyPlan`
 abbrev pub drawing : Format → Filter → Plan (List Float)
-drawing f s = drawPlan f (s .n) (s .x) (s .p) (scaleOf f (s .n) (s .params))
+drawing f s = drawPlan f (s .sheet .n) (s .track .x) (s .track .p) (scaleOf f (s .sheet .n) (s .sheet .params))
 
 module _ (f : Format) (s : Filter) where
-  pub open-prediction-lists : (b : List Float) → planned (plan f s (setting (open-prediction b))) ≡ listedAtOpen f (s .n) (s .x) (s .p) (scaleOf f (s .n) (s .params))
-  open-prediction-lists b = planned-mapped (opened opened-prediction (s .n) (weightsOf f (s .n) (s .params))) (drawing f s)
+  pub open-prediction-lists : (b : List Float) → planned (plan f s (setting (open-prediction b))) ≡ listedAtOpen f (s .sheet .n) (s .track .x) (s .track .p) (scaleOf f (s .sheet .n) (s .sheet .params))
+  open-prediction-lists b = planned-mapped (opened opened-prediction (s .sheet .n) (weightsOf f (s .sheet .n) (s .sheet .params))) (drawing f s)
 
   -- not stale, nothing is drawn
-  pub open-correction-lists : (b : List Float) → planned (plan f s (setting (open-correction b))) ≡ cond (s .stale) (listedAtOpen f (s .n) (s .x) (s .p) (scaleOf f (s .n) (s .params))) []
-  open-correction-lists b = go (s .stale)
+  pub open-correction-lists : (b : List Float) → planned (plan f s (setting (open-correction b))) ≡ cond (s .track .stale) (listedAtOpen f (s .sheet .n) (s .track .x) (s .track .p) (scaleOf f (s .sheet .n) (s .sheet .params))) []
+  open-correction-lists b = go (s .track .stale)
     where
-      go : (t : Bool) → planned (cond t (draws f opened-correction s) (finish (opened opened-correction (s .n) (s .weights) (s .points)))) ≡ cond t (listedAtOpen f (s .n) (s .x) (s .p) (scaleOf f (s .n) (s .params))) []
-      go true = planned-mapped (opened opened-correction (s .n) (weightsOf f (s .n) (s .params))) (drawing f s)
+      go : (t : Bool) → planned (cond t (draws f opened-correction s) (finish (opened opened-correction (s .sheet .n) (s .track .weights) (s .track .points)))) ≡ cond t (listedAtOpen f (s .sheet .n) (s .track .x) (s .track .p) (scaleOf f (s .sheet .n) (s .sheet .params))) []
+      go true = planned-mapped (opened opened-correction (s .sheet .n) (weightsOf f (s .sheet .n) (s .sheet .params))) (drawing f s)
       go false = refl
 
   pub close-prediction-lists : (v : List Float)
-      → planned (plan f s (closing (close-prediction v))) ≡ listedAtPrediction f (s .n) (front (pointNumbers (s .n)) v (zeros 136)) (w0mOf f (s .n) (s .params)) (s .«drawn_weights») (s .kinds) (s .q)
-  close-prediction-lists v = planned-mapped (closed (s .«drawn_weights») (front (pointNumbers (s .n)) v (zeros 136)) false) (predicting f s v)
+      → planned (plan f s (closing (close-prediction v))) ≡ listedAtPrediction f (s .sheet .n) (front (pointNumbers (s .sheet .n)) v (zeros 136)) (w0mOf f (s .sheet .n) (s .sheet .params)) (s .track .«drawn_weights») (s .sheet .kinds) (s .sheet .q)
+  close-prediction-lists v = planned-mapped (closed (s .track .«drawn_weights») (front (pointNumbers (s .sheet .n)) v (zeros 136)) false) (predicting f s v)
 
   pub close-correction-lists : (m : ℕ) (z r : List Float) (kinds : List Kind) (observed : List Float)
       → planned (plan f s (closing (close-correction m z r kinds observed))) ≡ listedAtCorrection f (weightedFrom f s m z r kinds observed)
-  close-correction-lists m z r kinds observed = planned-mapped (closed (s .«drawn_weights») (s .«drawn_points») true) (applyPlan f (weightedFrom f s m z r kinds observed))
+  close-correction-lists m z r kinds observed = planned-mapped (closed (s .track .«drawn_weights») (s .track .«drawn_points») true) (applyPlan f (weightedFrom f s m z r kinds observed))
 
   pub close-correction-flat-lists : (m : ℕ) (z r observed : List Float) → planned (plan f s (closing (close-correction-flat m z r observed))) ≡ listedAtCorrection f (flatFrom f s m z r observed)
-  close-correction-flat-lists m z r observed = planned-mapped (closed (s .«drawn_weights») (s .«drawn_points») true) (applyPlan f (flatFrom f s m z r observed))
+  close-correction-flat-lists m z r observed = planned-mapped (closed (s .track .«drawn_weights») (s .track .«drawn_points») true) (applyPlan f (flatFrom f s m z r observed))

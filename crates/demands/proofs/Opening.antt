@@ -74,26 +74,26 @@ module _ (f : Format) where
       onward-late (worked (factorOf f PIVOT p n)) _ (factor-late p n h) (λ l.
       rw g (onward-late (worked (listed (pointNumbers n) (pointsOf f n x l _))) _ (listed-late (allFinite (take (pointNumbers n) (pointsOf f n x l _))) _) (λ v. tt)))
 
-  module _ (s : Filter) (o : Sound f s) (h : 1 ≤ s .n) where
+  module _ (s : Filter) (o : Sound f s) (h : 1 ≤ s .sheet .n) where
     draws-late : (to : Weighted → Setting) → Late (run (draws f to (seen s)))
     unfolding weightsPass
     draws-late to =
-        rw (run-mapped (opened to (s .n) (weightsOf f (s .n) (s .params))) (drawing f (seen s)))
+        rw (run-mapped (opened to (s .sheet .n) (weightsOf f (s .sheet .n) (s .sheet .params))) (drawing f (seen s)))
         (onward-late (run (drawing f (seen s))) _
-        (draw-late (s .n) (s .x) (s .p) (scaleOf f (s .n) (s .params)) (o .small) (above-rooted (scaleOf f (s .n) (s .params)) (both {a = aboveZero (scaleOf f (s .n) (s .params))} (o .passed h) .0)))
+        (draw-late (s .sheet .n) (s .track .x) (s .track .p) (scaleOf f (s .sheet .n) (s .sheet .params)) (o .small) (above-rooted (scaleOf f (s .sheet .n) (s .sheet .params)) (both {a = aboveZero (scaleOf f (s .sheet .n) (s .sheet .params))} (o .passed h) .0)))
         (λ v. tt))
 
   module _ (s : Filter) (o : Sound f s) where
-    sized : inRange 1 8 (s .n) && true ≡ true → 1 ≤ s .n
-    sized h = in-range 1 8 (s .n) (both {a = inRange 1 8 (s .n)} h .0) .0
+    sized : inRange 1 8 (s .sheet .n) && true ≡ true → 1 ≤ s .sheet .n
+    sized h = in-range 1 8 (s .sheet .n) (both {a = inRange 1 8 (s .sheet .n)} h .0) .0
 
     sound-prediction : (b : List Float) → Neither (step f s (setting (open-prediction b)) .reply .refusal)
     unfolding step allFinite
-    sound-prediction b = early s (isShut (s .stage)) (inRange 1 8 (s .n) && true) (leb (pointNumbers (s .n)) (length b) && true) (run (draws f opened-prediction (seen s))) (λ h. draws-late s o (sized h) opened-prediction)
+    sound-prediction b = early s (isShut (s .track .stage)) (inRange 1 8 (s .sheet .n) && true) (leb (pointNumbers (s .sheet .n)) (length b) && true) (run (draws f opened-prediction (seen s))) (λ h. draws-late s o (sized h) opened-prediction)
 
     sound-correction : (b : List Float) → Neither (step f s (setting (open-correction b)) .reply .refusal)
     unfolding step allFinite
-    sound-correction b = early s (isShut (s .stage)) (inRange 1 8 (s .n) && true) (leb (pointNumbers (s .n)) (length b) && true) (run (plan f (seen s) (setting (open-correction b)))) (λ h. either (s .stale) _ _ (draws-late s o (sized h) opened-correction) tt)
+    sound-correction b = early s (isShut (s .track .stage)) (inRange 1 8 (s .sheet .n) && true) (leb (pointNumbers (s .sheet .n)) (length b) && true) (run (plan f (seen s) (setting (open-correction b)))) (λ h. either (s .track .stale) _ _ (draws-late s o (sized h) opened-correction) tt)
       where
         either : (t : Bool) (p q : Plan Done) → Late (run p) → Late (run q) → Late (run (cond t p q))
         either true p q i j = i

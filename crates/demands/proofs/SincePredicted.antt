@@ -2,7 +2,7 @@
 use Prim.Native.Nat.{ℕ}
 use mathlib.Core.Path.{_≡_, refl, sym, ap, _∙_, subst}
 use mathlib.Core.Bool.{Bool, true, false, _||_}
-use mathlib.Core.List.{List, []}
+use mathlib.Core.List.{List, [], _∷_}
 use mathlib.Core.Logic.{⊎-elim}
 use native.Mathlib.Omega.{arith}
 use lib.Ieee.{Float, Format}
@@ -11,21 +11,21 @@ use Rattle.floats.proofs.Refusals.{number-above}
 use Rattle.sigma.specs.declared.Params.{Params}
 use Rattle.filter.specs.declared.Filter.{Filter}
 use Rattle.filter.specs.declared.Stage.the-variants.{Shut}
-use Rattle.filter.specs.Filters.{filter}
-use Rattle.filter.specs.Calls.{set-x, set-p, set-q, set-params, set-kind, open-prediction, open-correction, close-prediction, close-correction, close-correction-flat, Call, setting, closing, abandon, reading}
+use Rattle.filter.specs.Filters.{sheet, track, filter}
+use Rattle.filter.specs.Calls.{set-x, set-p, set-q, set-params, set-kind, open-prediction, open-correction, close-prediction, close-correction, close-correction-flat, Call, writing, setting, closing, abandon, reading}
 use Rattle.filter.specs.Steps.{Stepped, step}
-use Rattle.filter.specs.New.{empty, newAsks, newOf, newAnswer}
+use Rattle.filter.specs.New.{empty, from, newAsks, newOf, newAnswer}
 use Rattle.demands.specs.Sound.{Yielded, fresh-made, stepped-on, put-at-will}
-use Rattle.demands.specs.Settings.{marks, Unmarking, SincePredicted, predicted, unmarked, qThen, OfPoints}
+use Rattle.demands.specs.Settings.{sheetMarks, marks, Unmarking, SincePredicted, predicted, unmarked, qThen, OfPoints}
 use Rattle.demands.proofs.Rows.{two-ways}
 use Rattle.demands.proofs.Exactly.{ends-so, refused-nothing}
 use Rattle.demands.proofs.Passed.{by-cases}
 use Rattle.demands.proofs.Leftover.{step-cases}
-use Rattle.demands.proofs.Accepted.{prediction-closed, correction-closed, flat-correction-closed, prediction-opened, correction-opened-afresh, correction-opened, setting-taken, setting-marked}
+use Rattle.demands.proofs.Accepted.{prediction-closed, correction-closed, flat-correction-closed, prediction-opened, correction-opened-afresh, correction-opened, writing-taken, writing-marked, setting-marked}
 
 -- without Q, what is open and what that has drawn
 abbrev bare : Filter → Filter
-bare s = filter (s .n) (s .x) (s .p) [] (s .params) (s .kinds) (s .weights) (s .points) (s .stale) Shut [] []
+bare s = filter (sheet (s .sheet .n) [] (s .sheet .params) (s .sheet .kinds)) (track (s .track .x) (s .track .p) (s .track .weights) (s .track .points) (s .track .stale) Shut [] [])
 
 neither : (a b : Bool) → (a || b) ≡ false → (a ≡ false) × (b ≡ false)
 neither false b e = (refl, e)
@@ -37,13 +37,13 @@ module _ (f : Format) (s : Filter) where
   taken-bare : (c : Call) → Unmarking c → step f s c .reply .refusal ≡ 0 → bare s ≡ bare (step f s c .filter)
   taken-bare (setting (set-x v)) u z = absurd (two-ways refl u)
   taken-bare (setting (set-p v)) u z = absurd (two-ways refl u)
-  taken-bare (setting (set-q v)) u z = ap bare (sym (setting-taken f s (set-q v) _ refl z))
-  taken-bare (setting (set-params p)) u z = absurd (two-ways refl u)
-  taken-bare (setting (set-kind i k)) u z = absurd (two-ways refl u)
+  taken-bare (writing (set-q v)) u z = ap bare (sym (writing-taken f s (set-q v) z))
+  taken-bare (writing (set-params p)) u z = absurd (two-ways refl u)
+  taken-bare (writing (set-kind i k)) u z = absurd (two-ways refl u)
   taken-bare (setting (open-prediction b)) u z = ap (λ (t : Stepped). bare (t .filter)) (sym (prediction-opened f s b z .2))
-  taken-bare (setting (open-correction b)) u z = go (s .stale) refl
+  taken-bare (setting (open-correction b)) u z = go (s .track .stale) refl
     where
-      go : (t : Bool) → s .stale ≡ t → bare s ≡ bare (step f s (setting (open-correction b)) .filter)
+      go : (t : Bool) → s .track .stale ≡ t → bare s ≡ bare (step f s (setting (open-correction b)) .filter)
       go true h = ap (λ (t : Stepped). bare (t .filter)) (sym (correction-opened-afresh f s b h z .2))
       go false h = ap (λ (t : Stepped). bare (t .filter)) (sym (correction-opened f s b h z))
   taken-bare (closing c) u z = absurd u
@@ -55,38 +55,39 @@ module _ (f : Format) (s : Filter) where
 
   -- ---- a call after which the filter isn't stale: the close of a prediction, or one that is refused or doesn't mark
 
-  module _ (y : Yielded f s) (was : s .stale ≡ false → SincePredicted f s) where
+  module _ (y : Yielded f s) (was : s .track .stale ≡ false → SincePredicted f s) where
     abbrev So : Call → Type 0
-    So c = step f s c .filter .stale ≡ false → SincePredicted f (step f s c .filter)
+    So c = step f s c .filter .track .stale ≡ false → SincePredicted f (step f s c .filter)
 
     goes-on : (c : Call) → (step f s c .reply .refusal ≡ 0 → Unmarking c) → So c
-    goes-on c h e = unmarked (was (ap (λ (t : Filter). t .stale) (unmarked-bare c h) ∙ e)) c h
+    goes-on c h e = unmarked (was (ap (λ (t : Filter). t .track .stale) (unmarked-bare c h) ∙ e)) c h
 
     either : (c : Call) → (step f s c .reply .refusal ≡ 0 → So c) → So c
     either c taken = ⊎-elim taken (λ q. goes-on c (λ z. absurd (omega (arith, number-above (q .0), q .1, z)))) (ends-so f s c)
 
     call-so : (c : Call) → So c
-    call-so (setting c) = either (setting c) (λ z e. goes-on (setting c) (λ k. neither (marks c) (s .stale) (sym (setting-marked f s c z) ∙ e) .0) e)
+    call-so (writing c) = either (writing c) (λ z e. goes-on (writing c) (λ k. neither (sheetMarks c) (s .track .stale) (sym (writing-marked f s c z) ∙ e) .0) e)
+    call-so (setting c) = either (setting c) (λ z e. goes-on (setting c) (λ k. neither (marks c) (s .track .stale) (sym (setting-marked f s c z) ∙ e) .0) e)
     call-so (closing (close-prediction v)) = either (closing (close-prediction v)) (λ z e. predicted y v z)
-    call-so (closing (close-correction m z r kinds observed)) = either (closing (close-correction m z r kinds observed)) (λ k e. absurd (two-ways (ap (λ (t : Filter). t .stale) (correction-closed f s m z r kinds observed k)) e))
-    call-so (closing (close-correction-flat m z r observed)) = either (closing (close-correction-flat m z r observed)) (λ k e. absurd (two-ways (ap (λ (t : Filter). t .stale) (flat-correction-closed f s m z r observed k)) e))
+    call-so (closing (close-correction m z r kinds observed)) = either (closing (close-correction m z r kinds observed)) (λ k e. absurd (two-ways (ap (λ (t : Filter). t .track .stale) (correction-closed f s m z r kinds observed k)) e))
+    call-so (closing (close-correction-flat m z r observed)) = either (closing (close-correction-flat m z r observed)) (λ k e. absurd (two-ways (ap (λ (t : Filter). t .track .stale) (flat-correction-closed f s m z r observed k)) e))
     call-so abandon = goes-on abandon (λ z. tt)
     call-so (reading c) = goes-on (reading c) (λ z. tt)
 
 module _ (f : Format) where
-  new-stale : (n : ℕ) (x p q : List Float) (params : Params) → newAnswer f n x p q params .filter .stale ≡ true
+  new-stale : (n : ℕ) (x p q : List Float) (params : Params) → newAnswer f n x p q params .filter .track .stale ≡ true
   unfolding newOf
-  new-stale n x p q params = by-cases (λ o. or empty o .stale ≡ true) (λ r. refl) f (newAsks f n x p q params) _ (λ h. refl)
+  new-stale n x p q params = by-cases (λ o. or empty o .track .stale ≡ true) (λ r. refl) f (newAsks n (from x p ∷ []) q params) _ (λ h. refl)
 
   -- NOTHING BUT Q HAS BEEN SET SINCE
-  pub since-predicted : {s : Filter} → Yielded f s → s .stale ≡ false → SincePredicted f s
+  pub since-predicted : {s : Filter} → Yielded f s → s .track .stale ≡ false → SincePredicted f s
   since-predicted (fresh-made n x p q params) e = absurd (two-ways (new-stale n x p q params) e)
   since-predicted (stepped-on {s = s} y c) e = call-so f s y (λ k. since-predicted y k) c e
-  since-predicted (put-at-will t y a) e = absurd (two-ways (a .stale₂) e)
+  since-predicted (put-at-will t y a) e = absurd (two-ways (a .track .stale₂) e)
 
   -- X AND P ARE OF THE POINTS
   pub of-points : {s : Filter} (k : SincePredicted f s) → OfPoints f s (qThen k)
-  of-points (predicted {s = s} y v e) = subst (λ (t : Filter). OfPoints f t (s .q)) (sym (prediction-closed f s v e)) (record { x = refl; p = refl })
+  of-points (predicted {s = s} y v e) = subst (λ (t : Filter). OfPoints f t (s .sheet .q)) (sym (prediction-closed f s v e)) (record { x = refl; p = refl })
   of-points (unmarked {s = s} k c h) = bare-points (unmarked-bare f s c h) (of-points k)
     where
       bare-points : {t u : Filter} {q : List Float} → bare t ≡ bare u → OfPoints f t q → OfPoints f u q

@@ -2,7 +2,7 @@
 use Prim.Native.Nat.{ℕ, _+_, _*_, _≤_, zero-le}
 use mathlib.Core.Path.{_≡_, refl, sym, ap}
 use mathlib.Core.Bool.{true}
-use mathlib.Core.List.{List, [], _∷_}
+use mathlib.Core.List.{List, [], _∷_, _++_}
 use native.Mathlib.Omega.{arith}
 use borrow.Author.Tests.{leb-true}
 use lib.ListN.{take}
@@ -15,10 +15,10 @@ use Rattle.sigma.specs.Weights.{weightsPass}
 use Rattle.sigma.specs.Draw.{pointNumbers}
 use Rattle.filter.specs.declared.Filter.{Filter}
 use Rattle.filter.specs.Asked.{by-params, fit}
-use Rattle.filter.specs.Filters.{isShut, seen, Setting, x-set, p-set, q-set, params-set, kinds-set, opened-prediction, opened-correction, Change, sets, closes, abandons, reads, set, changed}
+use Rattle.filter.specs.Filters.{filter, isShut, seen, Writing, q-set, params-set, kinds-set, Setting, x-set, p-set, opened-prediction, opened-correction, Change, writes, sets, closes, abandons, reads, changed}
 use Rattle.filter.specs.Calls.{Call, asks, Done, plan}
 use Rattle.filter.specs.Steps.{outcome, stepped, step}
-use Rattle.filter.specs.New.{fresh, empty, newAsks, newOf, newAnswer}
+use Rattle.filter.specs.New.{freshSheet, freshTrack, empty, from, newAsks, newOf, newAnswer}
 use Rattle.demands.specs.Runs.{tells, told, Alike}
 use Rattle.demands.specs.Sound.{Filled, Sound, Tidy, Reached, made, further, Yielded, fresh-made, stepped-on, put-at-will, handedOut, Each, end, and}
 use Rattle.demands.proofs.Rows.{two-ways}
@@ -30,7 +30,7 @@ module _ (f : Format) where
   -- ---- New
 
   fresh-sound : (n : ℕ) (x p q : List Float) (params : Params) → n ≤ 8 → Filled n 8 x → Filled (n * n) 64 p → Filled (n * n) 64 q
-      → allFinite (params .alpha ∷ params .beta ∷ params .kappa ∷ []) ≡ true → (1 ≤ n → weightsPass f n params ≡ true) → Sound f (fresh n x p q params)
+      → allFinite (params .alpha ∷ params .beta ∷ params .kappa ∷ []) ≡ true → (1 ≤ n → weightsPass f n params ≡ true) → Sound f (filter (freshSheet n q params) (freshTrack x p))
   unfolding allFinite
   fresh-sound n x p q params h fx fp fq a w = record {
     small = h;
@@ -52,56 +52,62 @@ module _ (f : Format) where
   unfolding allFinite
   empty-sound = fresh-sound 0 (zeros 8) (zeros 64) (zeros 64) _ zero-le (filled-zeros 0 8) (filled-zeros 0 64) (filled-zeros 0 64) refl (λ h. absurd (omega arith))
 
-  fresh-tidy : (n : ℕ) (x p q : List Float) (params : Params) → Tidy (fresh n x p q params)
+  fresh-tidy : (n : ℕ) (x p q : List Float) (params : Params) → Tidy (filter (freshSheet n q params) (freshTrack x p))
   fresh-tidy n x p q params = record { points = filled-zeros (pointNumbers n) 136; weights = filled-zeros (n + n + 1) 17; scratch-weights = λ e. refl; scratch-points = λ e. refl }
 
   module _ (n : ℕ) (x p q : List Float) (params : Params) where
     pub new-sound : Sound f (newAnswer f n x p q params .filter)
     unfolding newOf
     new-sound =
-        by-cases (λ o. Sound f (or empty o)) (λ r. empty-sound) f (newAsks f n x p q params) _ (λ h.
+        by-cases (λ o. Sound f (or empty o)) (λ r. empty-sound) f (newAsks n (from x p ∷ []) q params) _ (λ h.
         let small = in-range 1 8 n (h .sizes .0) .1 in
-        let a = all-parts (take n x) _ (h .inputs) in
-        let b = all-parts (take (n * n) p) _ (a .1) in
-        let c = all-parts (take (n * n) q) _ (b .1) in
+        let t = all-parts (take n x ++ take (n * n) p) _ (h .inputs) in
+        let a = all-parts (take n x) (take (n * n) p) (t .0) in
+        let c = all-parts (take (n * n) q) _ (t .1) in
         fresh-sound n _ _ _ params small
         (filled-front n 8 x (leb-true _ _ (h .lent .0)) small (a .0))
-        (filled-front (n * n) 64 p (leb-true _ _ (h .lent .1 .0)) (square-room n small) (b .0))
+        (filled-front (n * n) 64 p (leb-true _ _ (h .lent .1 .0)) (square-room n small) (a .1))
         (filled-front (n * n) 64 q (leb-true _ _ (h .lent .1 .1 .0)) (square-room n small) (c .0))
         (c .1)
         (λ e. both {a = fit f (by-params n params)} (h .params) .0))
 
     pub new-tidy : Tidy (newAnswer f n x p q params .filter)
     unfolding newOf
-    new-tidy = by-cases (λ o. Tidy (or empty o)) (λ r. fresh-tidy 0 _ _ _ _) f (newAsks f n x p q params) _ (λ h. fresh-tidy n _ _ _ params)
+    new-tidy = by-cases (λ o. Tidy (or empty o)) (λ r. fresh-tidy 0 _ _ _ _) f (newAsks n (from x p ∷ []) q params) _ (λ h. fresh-tidy n _ _ _ params)
 
   -- ---- changes
 
-  set-sound : (s : Filter) (c : Setting) → Sound f s → Fine f s (sets c) → Sound f (set s c)
+  written-sound : (s : Filter) (c : Writing) → Sound f s → Fine f s (writes c) → Sound f (changed s (writes c))
+  written-sound s (q-set v) o g = record { small = o .small; x = o .x; p = o .p; q = g .0; params = o .params; passed = o .passed; kinds = o .kinds; turns = o .turns; eight = o .eight; past = o .past; current = o .current; drawn = λ e. absurd (two-ways (g .1) e); drawn-from = λ e. absurd (two-ways (g .1) e) }
+  written-sound s (params-set v) o g = record { small = o .small; x = o .x; p = o .p; q = o .q; params = g .0 .0; passed = λ e. g .0 .1; kinds = o .kinds; turns = o .turns; eight = o .eight; past = o .past; current = λ e. absurd (two-ways refl e); drawn = λ e. absurd (two-ways (g .1) e); drawn-from = λ e. absurd (two-ways (g .1) e) }
+  written-sound s (kinds-set v) o g = record { small = o .small; x = o .x; p = o .p; q = o .q; params = o .params; passed = o .passed; kinds = g .0 .0; turns = g .0 .1; eight = g .0 .2; past = g .0 .3; current = λ e. absurd (two-ways refl e); drawn = λ e. absurd (two-ways (g .1) e); drawn-from = λ e. absurd (two-ways (g .1) e) }
+
+  set-sound : (s : Filter) (c : Setting) → Sound f s → Fine f s (sets c) → Sound f (changed s (sets c))
   set-sound s (x-set v) o g = record { small = o .small; x = g .0; p = o .p; q = o .q; params = o .params; passed = o .passed; kinds = o .kinds; turns = o .turns; eight = o .eight; past = o .past; current = λ e. absurd (two-ways refl e); drawn = λ e. absurd (two-ways (g .1) e); drawn-from = λ e. absurd (two-ways (g .1) e) }
   set-sound s (p-set v) o g = record { small = o .small; x = o .x; p = g .0; q = o .q; params = o .params; passed = o .passed; kinds = o .kinds; turns = o .turns; eight = o .eight; past = o .past; current = λ e. absurd (two-ways refl e); drawn = λ e. absurd (two-ways (g .1) e); drawn-from = λ e. absurd (two-ways (g .1) e) }
-  set-sound s (q-set v) o g = record { small = o .small; x = o .x; p = o .p; q = g .0; params = o .params; passed = o .passed; kinds = o .kinds; turns = o .turns; eight = o .eight; past = o .past; current = o .current; drawn = λ e. absurd (two-ways (g .1) e); drawn-from = λ e. absurd (two-ways (g .1) e) }
-  set-sound s (params-set v) o g = record { small = o .small; x = o .x; p = o .p; q = o .q; params = g .0 .0; passed = λ e. g .0 .1; kinds = o .kinds; turns = o .turns; eight = o .eight; past = o .past; current = λ e. absurd (two-ways refl e); drawn = λ e. absurd (two-ways (g .1) e); drawn-from = λ e. absurd (two-ways (g .1) e) }
-  set-sound s (kinds-set v) o g = record { small = o .small; x = o .x; p = o .p; q = o .q; params = o .params; passed = o .passed; kinds = g .0 .0; turns = g .0 .1; eight = g .0 .2; past = g .0 .3; current = λ e. absurd (two-ways refl e); drawn = λ e. absurd (two-ways (g .1) e); drawn-from = λ e. absurd (two-ways (g .1) e) }
   set-sound s (opened-prediction d) o g = record { small = o .small; x = o .x; p = o .p; q = o .q; params = o .params; passed = o .passed; kinds = o .kinds; turns = o .turns; eight = o .eight; past = o .past; current = o .current; drawn = λ e. g .0 .0; drawn-from = λ e. g .0 .1 }
   set-sound s (opened-correction d) o g = record { small = o .small; x = o .x; p = o .p; q = o .q; params = o .params; passed = o .passed; kinds = o .kinds; turns = o .turns; eight = o .eight; past = o .past; current = o .current; drawn = λ e. g .0 .0; drawn-from = λ e. g .0 .1 }
 
   changed-sound : (s : Filter) (c : Change) → Sound f s → Fine f s c → Sound f (changed s c)
+  changed-sound s (writes c) o g = written-sound s c o g
   changed-sound s (sets c) o g = set-sound s c o g
   changed-sound s (closes c) o g = record { small = o .small; x = g .0; p = g .1; q = o .q; params = o .params; passed = o .passed; kinds = o .kinds; turns = o .turns; eight = o .eight; past = o .past; current = λ e. g .2; drawn = λ e. absurd (two-ways refl e); drawn-from = λ e. absurd (two-ways refl e) }
   changed-sound s abandons o g = record { small = o .small; x = o .x; p = o .p; q = o .q; params = o .params; passed = o .passed; kinds = o .kinds; turns = o .turns; eight = o .eight; past = o .past; current = o .current; drawn = λ e. absurd (two-ways refl e); drawn-from = λ e. absurd (two-ways refl e) }
   changed-sound s reads o g = o
 
-  set-tidy : (s : Filter) (c : Setting) → Tidy s → Tidy (set s c)
+  written-tidy : (s : Filter) (c : Writing) → Tidy s → Tidy (changed s (writes c))
+  written-tidy s (q-set v) t = record { points = t .points; weights = t .weights; scratch-weights = t .scratch-weights; scratch-points = t .scratch-points }
+  written-tidy s (params-set v) t = record { points = t .points; weights = t .weights; scratch-weights = t .scratch-weights; scratch-points = t .scratch-points }
+  written-tidy s (kinds-set v) t = record { points = t .points; weights = t .weights; scratch-weights = t .scratch-weights; scratch-points = t .scratch-points }
+
+  set-tidy : (s : Filter) (c : Setting) → Tidy s → Tidy (changed s (sets c))
   set-tidy s (x-set v) t = record { points = t .points; weights = t .weights; scratch-weights = t .scratch-weights; scratch-points = t .scratch-points }
   set-tidy s (p-set v) t = record { points = t .points; weights = t .weights; scratch-weights = t .scratch-weights; scratch-points = t .scratch-points }
-  set-tidy s (q-set v) t = record { points = t .points; weights = t .weights; scratch-weights = t .scratch-weights; scratch-points = t .scratch-points }
-  set-tidy s (params-set v) t = record { points = t .points; weights = t .weights; scratch-weights = t .scratch-weights; scratch-points = t .scratch-points }
-  set-tidy s (kinds-set v) t = record { points = t .points; weights = t .weights; scratch-weights = t .scratch-weights; scratch-points = t .scratch-points }
   set-tidy s (opened-prediction d) t = record { points = t .points; weights = t .weights; scratch-weights = λ e. absurd (two-ways e refl); scratch-points = λ e. absurd (two-ways e refl) }
   set-tidy s (opened-correction d) t = record { points = t .points; weights = t .weights; scratch-weights = λ e. absurd (two-ways e refl); scratch-points = λ e. absurd (two-ways e refl) }
 
   changed-tidy : (s : Filter) (c : Change) → Tidy s → Fine f s c → Tidy (changed s c)
+  changed-tidy s (writes c) t g = written-tidy s c t
   changed-tidy s (sets c) t g = set-tidy s c t
   changed-tidy s (closes c) t g = record { points = g .2 .points; weights = g .2 .weights; scratch-weights = λ e. refl; scratch-points = λ e. refl }
   changed-tidy s abandons t g = record { points = t .points; weights = t .weights; scratch-weights = λ e. refl; scratch-points = λ e. refl }
@@ -128,19 +134,19 @@ module _ (f : Format) where
   -- with points, weights and scratch put at will, stale and with no call open
   alike-sound : (s t : Filter) → Sound f s → Alike s t → Sound f t
   alike-sound s t o a = record {
-    small = rw (sym (a .n)) (o .small);
-    x = rw (sym (a .n), sym (a .x)) (o .x);
-    p = rw (sym (a .n), sym (a .p)) (o .p);
-    q = rw (sym (a .n), sym (a .q)) (o .q);
-    params = rw (sym (a .params)) (o .params);
-    passed = rw (sym (a .n), sym (a .params)) (o .passed);
-    kinds = rw (sym (a .kinds)) (o .kinds);
-    turns = rw (sym (a .kinds)) (o .turns);
-    eight = rw (sym (a .kinds)) (o .eight);
-    past = rw (sym (a .n), sym (a .kinds)) (o .past);
-    current = λ e. absurd (two-ways (a .stale₂) e);
-    drawn = λ e. absurd (two-ways (ap isShut (a .shut₂)) e);
-    drawn-from = λ e. absurd (two-ways (ap isShut (a .shut₂)) e);
+    small = rw (sym (a .sheet)) (o .small);
+    x = rw (sym (a .sheet), sym (a .track .x)) (o .x);
+    p = rw (sym (a .sheet), sym (a .track .p)) (o .p);
+    q = rw (sym (a .sheet)) (o .q);
+    params = rw (sym (a .sheet)) (o .params);
+    passed = rw (sym (a .sheet)) (o .passed);
+    kinds = rw (sym (a .sheet)) (o .kinds);
+    turns = rw (sym (a .sheet)) (o .turns);
+    eight = rw (sym (a .sheet)) (o .eight);
+    past = rw (sym (a .sheet)) (o .past);
+    current = λ e. absurd (two-ways (a .track .stale₂) e);
+    drawn = λ e. absurd (two-ways (ap isShut (a .track .shut₂)) e);
+    drawn-from = λ e. absurd (two-ways (ap isShut (a .track .shut₂)) e);
   }
 
   pub sound : {s : Filter} → Yielded f s → Sound f s
@@ -154,11 +160,11 @@ module _ (f : Format) where
 
   -- ---- EVERY NUMBER HANDED OUT IS FINITE
 
-  tells-finite : (s : Filter) (c : Call) → Sound f s → allFinite (handedOut (tells (step f s c))) ≡ true
+  pub tells-finite : (s : Filter) (c : Call) → Sound f s → allFinite (handedOut (tells (step f s c))) ≡ true
   unfolding tells
   tells-finite s c o =
       let t = step-sound s c o in
-      all-both (step f s c .reply .given) _ (given-finite s c o) (all-both (step f s c .filter .x) (step f s c .filter .p) (filled-all (t .x)) (filled-all (t .p)))
+      all-both (step f s c .reply .given) _ (given-finite s c o) (all-both (step f s c .filter .track .x) (step f s c .filter .track .p) (filled-all (t .x)) (filled-all (t .p)))
 
   run-finite : (s : Filter) → Sound f s → (cs : List Call) → Each (λ t. allFinite (handedOut t) ≡ true) (told f s cs)
   unfolding told

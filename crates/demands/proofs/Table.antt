@@ -14,8 +14,8 @@ use Rattle.sigma.specs.Draw.{pointNumbers}
 use Rattle.correction.specs.Correct.{applyPlan}
 use Rattle.filter.specs.declared.Filter.{Filter}
 use Rattle.filter.specs.Asked.{Size}
-use Rattle.filter.specs.Filters.{seen, Setting, Closing, Change, sets, closes, abandons, reads}
-use Rattle.filter.specs.Calls.{set-x, set-p, set-q, set-params, set-kind, open-prediction, open-correction, close-prediction, close-correction, close-correction-flat, read-x, read-p, read-q, read-points, read-params, read-stale, Call, setting, closing, abandon, reading, fits, asks, Done, closed, plan, weightedFrom, flatFrom}
+use Rattle.filter.specs.Filters.{seen, Writing, Setting, Closing, Change, writes, sets, closes, abandons, reads}
+use Rattle.filter.specs.Calls.{set-x, set-p, set-q, set-params, set-kind, open-prediction, open-correction, close-prediction, close-correction, close-correction-flat, read-x, read-p, read-q, read-points, read-params, read-stale, Call, writing, setting, closing, abandon, reading, fits, asks, Done, closed, plan, weightedFrom, flatFrom}
 use Rattle.filter.specs.Steps.{step}
 use Rattle.filter.proofs.Closing.{predicting}
 use Rattle.demands.specs.Rows.{Some, here, OutOfRange, IsTurn, IsFlat, FirstFails, Cause, stage, size, short, stale, kind, param, met, gives, Applies, place, ByStep}
@@ -29,6 +29,7 @@ use Rattle.demands.proofs.ByStep.{StepsOwn, met-by-step, draw-own, corr
 
 -- the change that a call makes is one of its own sort
 abbrev pub Own : Call → Change → Type 0
+Own (writing c) d = (u : Writing) × (d ≡ writes u)
 Own (setting c) d = (u : Setting) × (d ≡ sets u)
 Own (closing c) d = (u : Closing) × (d ≡ closes u)
 Own abandon d = d ≡ abandons
@@ -36,9 +37,9 @@ Own (reading c) d = d ≡ reads
 
 -- a call asks that it fits what is open and that there are 1 to 8 states; no kind has to be plain but in a flat close; its steps give numbers of theirs; and it makes a change of its own sort
 pub record Regular (f : Format) (s : Filter) (c : Call) : Type 0 where
-  pub fitting : asks s c .fits ≡ fits c (s .stage)
+  pub fitting : asks s c .fits ≡ fits c (s .track .stage)
   pub others : List Size
-  pub states : asks s c .sizes ≡ record { value = s .n; from = 1; to = 8 } ∷ others
+  pub states : asks s c .sizes ≡ record { value = s .sheet .n; from = 1; to = 8 } ∷ others
   pub only : Some IsTurn (asks s c .plain) → IsFlat c
   pub met : StepsOwn (planned (plan f s c))
   pub change : Ran (plan f s c) (λ (d : Done). Own c (d .change))
@@ -48,21 +49,21 @@ own-either true e = e
 own-either false e = end
 
 module _ (f : Format) (s : Filter) where
-  lined : {c : Call} {others : List Size} → asks s c .fits ≡ fits c (s .stage) → asks s c .sizes ≡ record { value = s .n; from = 1; to = 8 } ∷ others → (Some IsTurn (asks s c .plain) → IsFlat c) → StepsOwn (planned (plan f s c))
+  lined : {c : Call} {others : List Size} → asks s c .fits ≡ fits c (s .track .stage) → asks s c .sizes ≡ record { value = s .sheet .n; from = 1; to = 8 } ∷ others → (Some IsTurn (asks s c .plain) → IsFlat c) → StepsOwn (planned (plan f s c))
       → Ran (plan f s c) (λ (d : Done). Own c (d .change)) → Regular f s c
   lined {c} {others} a b k m d = record { fitting = a; others = others; states = b; only = k; met = m; change = d }
 
   pub regular : (c : Call) → Regular f s c
+  regular (writing (set-q v)) = lined refl refl none end (ran-finish _ _ (_, refl))
+  regular (writing (set-params p)) = lined refl refl none end (ran-finish _ _ (_, refl))
+  regular (writing (set-kind i k)) = lined refl refl none end (ran-finish _ _ (_, refl))
   regular (setting (set-x v)) = lined refl refl none end (ran-finish _ _ (_, refl))
   regular (setting (set-p v)) = lined refl refl none end (ran-finish _ _ (_, refl))
-  regular (setting (set-q v)) = lined refl refl none end (ran-finish _ _ (_, refl))
-  regular (setting (set-params p)) = lined refl refl none end (ran-finish _ _ (_, refl))
-  regular (setting (set-kind i k)) = lined refl refl none end (ran-finish _ _ (_, refl))
-  regular (setting (open-prediction b)) = lined refl refl none (rw (open-prediction-lists f s b) (draw-own f (s .n) _ _ _)) (ran-mapped _ _ (drawing f s) (λ a e. (_, refl)))
-  regular (setting (open-correction b)) = lined refl refl none (rw (open-correction-lists f s b) (own-either (s .stale) (draw-own f (s .n) _ _ _))) (ran-either _ (s .stale) _ _ (λ t. ran-mapped _ _ (drawing f s) (λ a e. (_, refl))) (λ t. ran-finish _ _ (_, refl)))
-  regular (closing (close-prediction v)) = lined refl refl none (rw (close-prediction-lists f s v) (and tt (and tt end))) (ran-mapped _ (closed (s .«drawn_weights») (front (pointNumbers (s .n)) v (zeros 136)) false) (predicting f s v) (λ a e. (_, refl)))
-  regular (closing (close-correction m z r kinds observed)) = lined refl refl none (rw (close-correction-lists f s m z r kinds observed) (correct-own f (weightedFrom f s m z r kinds observed))) (ran-mapped _ (closed (s .«drawn_weights») (s .«drawn_points») true) (applyPlan f (weightedFrom f s m z r kinds observed)) (λ a e. (_, refl)))
-  regular (closing (close-correction-flat m z r observed)) = lined refl refl (λ w. tt) (rw (close-correction-flat-lists f s m z r observed) (correct-own f (flatFrom f s m z r observed))) (ran-mapped _ (closed (s .«drawn_weights») (s .«drawn_points») true) (applyPlan f (flatFrom f s m z r observed)) (λ a e. (_, refl)))
+  regular (setting (open-prediction b)) = lined refl refl none (rw (open-prediction-lists f s b) (draw-own f (s .sheet .n) _ _ _)) (ran-mapped _ _ (drawing f s) (λ a e. (_, refl)))
+  regular (setting (open-correction b)) = lined refl refl none (rw (open-correction-lists f s b) (own-either (s .track .stale) (draw-own f (s .sheet .n) _ _ _))) (ran-either _ (s .track .stale) _ _ (λ t. ran-mapped _ _ (drawing f s) (λ a e. (_, refl))) (λ t. ran-finish _ _ (_, refl)))
+  regular (closing (close-prediction v)) = lined refl refl none (rw (close-prediction-lists f s v) (and tt (and tt end))) (ran-mapped _ (closed (s .track .«drawn_weights») (front (pointNumbers (s .sheet .n)) v (zeros 136)) false) (predicting f s v) (λ a e. (_, refl)))
+  regular (closing (close-correction m z r kinds observed)) = lined refl refl none (rw (close-correction-lists f s m z r kinds observed) (correct-own f (weightedFrom f s m z r kinds observed))) (ran-mapped _ (closed (s .track .«drawn_weights») (s .track .«drawn_points») true) (applyPlan f (weightedFrom f s m z r kinds observed)) (λ a e. (_, refl)))
+  regular (closing (close-correction-flat m z r observed)) = lined refl refl (λ w. tt) (rw (close-correction-flat-lists f s m z r observed) (correct-own f (flatFrom f s m z r observed))) (ran-mapped _ (closed (s .track .«drawn_weights») (s .track .«drawn_points») true) (applyPlan f (flatFrom f s m z r observed)) (λ a e. (_, refl)))
   regular abandon = lined refl refl none end (ran-finish _ _ refl)
   regular (reading (read-x b)) = lined refl refl none end (ran-finish _ _ refl)
   regular (reading (read-p b)) = lined refl refl none end (ran-finish _ _ refl)
@@ -116,7 +117,7 @@ module _ (f : Format) (s : Filter) (c : Call) where
       go (met q) e x w = absurd (n (steps-give r (rw e at x)))
 
   -- 3 is given exactly when the call doesn't fit what is open
-  pub stage-exactly : (step f s c .reply .refusal ≡ number STAGE) ↔ (fits c (s .stage) ≡ false)
+  pub stage-exactly : (step f s c .reply .refusal ≡ number STAGE) ↔ (fits c (s .track .stage) ≡ false)
   stage-exactly =
       let line = regular f (seen s) c in (
         λ e. sym (line .fitting) ∙ by-row STAGE (λ b. b) e .0,
@@ -124,10 +125,10 @@ module _ (f : Format) (s : Filter) (c : Call) where
       )
 
   -- so a call that is taken fits
-  pub taken-fits : step f s c .reply .refusal ≡ 0 → fits c (s .stage) ≡ true
-  taken-fits e = go (fits c (s .stage)) refl
+  pub taken-fits : step f s c .reply .refusal ≡ 0 → fits c (s .track .stage) ≡ true
+  taken-fits e = go (fits c (s .track .stage)) refl
     where
-      go : (t : Bool) → fits c (s .stage) ≡ t → t ≡ true
+      go : (t : Bool) → fits c (s .track .stage) ≡ t → t ≡ true
       go true h = refl
       go false h = absurd (let z : _≡_ {A = ℕ} 3 0 = sym (stage-exactly .1 h) ∙ e in omega arith)
 
@@ -143,7 +144,7 @@ module _ (f : Format) (s : Filter) (c : Call) where
   never-param h e = none (rw h at by-row PARAM (λ b. b) e .0)
 
   -- 1 is given for n outside 1 to 8, by every call that 3 doesn't stop
-  pub states-first : OutOfRange (record { value = s .n; from = 1; to = 8 }) → fits c (s .stage) ≡ true → step f s c .reply .refusal ≡ number SIZE
+  pub states-first : OutOfRange (record { value = s .sheet .n; from = 1; to = 8 }) → fits c (s .track .stage) ≡ true → step f s c .reply .refusal ≡ number SIZE
   states-first o h =
       let line = regular f (seen s) c in
       exactly f s c SIZE .1 (record { cause = size; gives-it = refl; applies = rw (line .states) (here o); no-earlier = λ d l x. absurd (early d l x (line .fitting ∙ h)) })

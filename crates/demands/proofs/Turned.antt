@@ -46,7 +46,7 @@ module _ (f : Format) (s : Filter) (m : ℕ) (z r observed : List Float) where
       let of-z = all-parts (take m z) _ (holds (all-finite (asked .inputs)) (w Row.number (omega arith))) in
       let of-r = all-parts (take (m * m) r) _ (of-z .1) in record {
         correcting = holds (itself (asked .fits)) (w stage (omega arith));
-        states = in-range 1 8 (s .n) (sizes .0);
+        states = in-range 1 8 (s .sheet .n) (sizes .0);
         measurements = in-range 1 4 m (sizes .1 .0);
         long = (leb-true _ _ (lent .0), leb-true _ _ (lent .1 .0), leb-true _ _ (lent .1 .1 .0));
         finite-z = of-z .0;
@@ -56,7 +56,7 @@ module _ (f : Format) (s : Filter) (m : ℕ) (z r observed : List Float) where
 
   none-before : Measurable s m z r observed → (d : Cause) → place d < place kind → Asked f s call d → ⊥
   none-before h stage l x = two-ways (h .correcting) x
-  none-before h size l x = some within OutOfRange ranged (asked .sizes) .passes (both-true (in-range-is 1 8 (s .n) (h .states)) (both-true (in-range-is 1 4 m (h .measurements)) refl)) x
+  none-before h size l x = some within OutOfRange ranged (asked .sizes) .passes (both-true (in-range-is 1 8 (s .sheet .n) (h .states)) (both-true (in-range-is 1 4 m (h .measurements)) refl)) x
   none-before h short l x = some long Shorter lent-long (asked .lent) .passes (both-true (le-leb _ _ (h .long .0)) (both-true (le-leb _ _ (h .long .1)) (both-true (le-leb _ _ (h .long .2)) refl))) x
   none-before h stale l x = two-ways x refl
   none-before h Row.number l x =
@@ -65,7 +65,7 @@ module _ (f : Format) (s : Filter) (m : ℕ) (z r observed : List Float) where
   none-before h param l x = absurd (omega arith)
   none-before h (met q) l x = absurd (omega arith)
 
-  pub turned-away-exactly : (step f s call .reply .refusal ≡ number KIND) ↔ (Measurable s m z r observed × Some IsTurn (take (s .n) (s .kinds)))
+  pub turned-away-exactly : (step f s call .reply .refusal ≡ number KIND) ↔ (Measurable s m z r observed × Some IsTurn (take (s .sheet .n) (s .sheet .kinds)))
   turned-away-exactly = (
     λ e. let w = by-row f s call KIND (λ b. b) e in (measurable (w .1), w .0),
     λ h. exactly f s call KIND .1 (record { cause = kind; gives-it = refl; applies = h .1; no-earlier = none-before (h .0) }),

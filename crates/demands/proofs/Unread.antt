@@ -113,11 +113,11 @@ unfolding step
 kinds-unread f s m z r observed ks ls h a b e =
     let t = seen s in
     let asked : List Kind → Asks =
-    λ v. line (isCorrecting (t .stage)) (t .n) (sized m 1 4)
-    (lentMeasured (t .n) m z r observed)
+    λ v. line (isCorrecting (t .track .stage)) (t .sheet .n) (sized m 1 4)
+    (lentMeasured (t .sheet .n) m z r observed)
     false
-    (take m z ++ (take (m * m) r ++ (inKinds v ++ take (observedNumbers (t .n) m) observed)))
+    (take m z ++ (take (m * m) r ++ (inKinds v ++ take (observedNumbers (t .sheet .n) m) observed)))
     (asKinds v) in
-    ap₂ (λ (v : List Kind) (q : Plan Moment). stepped s (guarded f (asked v) (run (mapped (closed (t .«drawn_weights») (t .«drawn_points») true) q)))) e
-    (let v = measurement (t .n) m z r observed in
-    plan-same f (t .n) m (t .x) (t .p) (t .«drawn_points») (v .observed) (w0mOf f (t .n) (t .params)) (t .«drawn_weights») (v .z) (v .r) (t .kinds) (widened ks) (widened ls) (wide-agree m ks ls h a b e))
+    ap₂ (λ (v : List Kind) (q : Plan Moment). stepped s (guarded f (asked v) (run (mapped (closed (t .track .«drawn_weights») (t .track .«drawn_points») true) q)))) e
+    (let v = measurement (t .sheet .n) m z r observed in
+    plan-same f (t .sheet .n) m (t .track .x) (t .track .p) (t .track .«drawn_points») (v .observed) (w0mOf f (t .sheet .n) (t .sheet .params)) (t .track .«drawn_weights») (v .z) (v .r) (t .sheet .kinds) (widened ks) (widened ls) (wide-agree m ks ls h a b e))

@@ -1,4 +1,4 @@
--- THE TABLE OF CASES: document 01's numbers to check by hand, C1 to C12, and a run each for document 02's A1 (the flat close) and A3 (settings mark stale); each a name and a test that antt computes. Definitions only.
+-- THE TABLE OF CASES: document 01's numbers to check by hand, C1 to C12, and a run each for document 02's A1 (the flat close), A3 (settings mark stale) and A4 (a pair on one sheet); each a name and a test that antt computes. Definitions only.
 use Prim.Native.Nat.{ℕ}
 use Prim.Native.String.{String}
 use mathlib.Core.Bool.{Bool, true, false, _&&_, Bool·beq}
@@ -20,10 +20,14 @@ use Rattle.sigma.specs.Weights.{lambdaOf, scaleOf, w0mOf, w0cOf, wiOf, weightsO
 use Rattle.sigma.specs.Mean.{meanOf}
 use Rattle.correction.specs.Correct.{Head, given, weightedHead}
 use Rattle.filter.specs.declared.Filter.{Filter}
-use Rattle.filter.specs.Calls.{Call, setting, closing, abandon, reading, set-x, set-p, set-q, set-params, set-kind, open-prediction, open-correction, close-prediction, close-correction, close-correction-flat, read-q, read-points, read-stale}
+use Rattle.filter.specs.Calls.{Call, writing, setting, closing, abandon, reading, set-x, set-p, set-q, set-params, set-kind, open-prediction, open-correction, close-prediction, close-correction, close-correction-flat, read-q, read-points, read-stale}
 use Rattle.filter.specs.New.{newAnswer}
+use Rattle.pairs.specs.declared.Pair.{Pair}
+use Rattle.pairs.specs.declared.Side.the-variants.{First, Second}
+use Rattle.pairs.specs.NewPair.{newPairAnswer}
 use Rattle.demands.specs.Listed.{gain}
 use Rattle.demands.specs.Runs.{Told, told}
+use Rattle.demands.specs.PairRuns.{SideCall, by, pairTold}
 use Rattle.demands.specs.Written.{int, minus, frac, two-to-minus, _is_, _are_}
 
 -- ---- parameters
@@ -110,7 +114,7 @@ story =
     ∷ ("and P = 4", (setting (set-p (int 4 ∷ [])), telling 0 [] (int 3) (int 4) true))
     ∷ ("drawn afresh once more", (setting (open-correction three), telling 0 (int 3 ∷ int 5 ∷ int 1 ∷ []) (int 3) (int 4) true))
     ∷ ("abandoned", (abandon, telling 0 [] (int 3) (int 4) true))
-    ∷ ("C12 a turn", (setting (set-kind 0 (record { residual = Turn (int 180) })), telling 0 [] (int 3) (int 4) true))
+    ∷ ("C12 a turn", (writing (set-kind 0 (record { residual = Turn (int 180) })), telling 0 [] (int 3) (int 4) true))
     ∷ ("C12 open", (setting (open-prediction three), telling 0 (int 3 ∷ int 5 ∷ int 1 ∷ []) (int 3) (int 4) true))
     ∷ ("C12 close", (closing (close-prediction (int 179 ∷ minus 171 ∷ int 169 ∷ [])), telling 0 [] (int 179) (int 101) false))
     ∷ []
@@ -128,7 +132,7 @@ flatStory =
     ∷ ("A1 open", (setting (open-correction three), telling 0 (int 5 ∷ int 4 ∷ int 0 ∷ []) (int 2) (int 5) false))
     ∷ ("A1 close", (measuringFlat (int 6), telling 0 [] (int 3) (int 4) true))
     ∷ ("A1 stale", (reading read-stale, marking (int 3) (int 4) true))
-    ∷ ("A1 a turn", (setting (set-kind 0 (record { residual = Turn (int 180) })), telling 0 [] (int 3) (int 4) true))
+    ∷ ("A1 a turn", (writing (set-kind 0 (record { residual = Turn (int 180) })), telling 0 [] (int 3) (int 4) true))
     ∷ ("A1 drawn afresh", (setting (open-correction three), telling 0 (int 3 ∷ int 5 ∷ int 1 ∷ []) (int 3) (int 4) true))
     ∷ ("A1 a number before a turn", (measuringFlat nan, telling 5 [] (int 3) (int 4) true))
     ∷ ("A1 turned away", (measuringFlat (int 6), telling 10 [] (int 3) (int 4) true))
@@ -147,14 +151,40 @@ settingStory =
     ∷ ("A3 abandoned", (abandon, telling 0 [] (int 2) (frac 25 16) true))
     ∷ ("A3 predicted again", (setting (open-prediction three), telling 0 (int 2 ∷ frac 13 4 ∷ frac 3 4 ∷ []) (int 2) (frac 25 16) true))
     ∷ ("A3 not stale", (closing (close-prediction (int 2 ∷ frac 11 4 ∷ frac 5 4 ∷ [])), telling 0 [] (int 2) (frac 25 16) false))
-    ∷ ("A3 Q marks not", (setting (set-q (int 9 ∷ [])), telling 0 [] (int 2) (frac 25 16) false))
+    ∷ ("A3 Q marks not", (writing (set-q (int 9 ∷ [])), telling 0 [] (int 2) (frac 25 16) false))
     ∷ ("A3 Q is set", (reading (read-q three), telling 0 (int 9 ∷ []) (int 2) (frac 25 16) false))
-    ∷ ("A3 a refusal marks not", (setting (set-params c4), telling 6 [] (int 2) (frac 25 16) false))
+    ∷ ("A3 a refusal marks not", (writing (set-params c4), telling 6 [] (int 2) (frac 25 16) false))
     ∷ ("A3 points stand", (reading (read-points three), telling 0 (int 2 ∷ frac 11 4 ∷ frac 5 4 ∷ []) (int 2) (frac 25 16) false))
-    ∷ ("A3 alpha marks", (setting (set-params (params (int 2) (int 0) (int 0))), telling 0 [] (int 2) (frac 25 16) true))
+    ∷ ("A3 alpha marks", (writing (set-params (params (int 2) (int 0) (int 0))), telling 0 [] (int 2) (frac 25 16) true))
     ∷ ("A3 points not read", (reading (read-points three), telling 4 [] (int 2) (frac 25 16) true))
     ∷ ("A3 drawn by the new alpha", (setting (open-correction three), telling 0 (int 2 ∷ frac 9 2 ∷ neg (frac 1 2) ∷ []) (int 2) (frac 25 16) true))
     ∷ ("A3 corrected by the new alpha", (measuringBy (int 3) (frac 13 2) (int 2 ∷ int 6 ∷ int 2 ∷ []), telling 0 [] (frac 13 4) (frac 75 64) true))
+    ∷ []
+
+-- A4 through the calls: states of 2 and 3, P = 4, on one sheet with Q = 1 and parameters C1. While the first has a call open a sheet change through either side is refused by 3, before 1 and 5, and the second's own settings are taken. Closed as C9 the first isn't stale;
+-- Q set through the second marks neither, is read by the first and counts in the second's prediction: 3, 5, 1 propagated have P = 4 + 9. Parameters refused by 6 mark neither, and taken they mark both, through whichever side.
+abbrev pub both : Pair
+both = newPairAnswer binary64 1 (int 2 ∷ []) (int 4 ∷ []) (int 3 ∷ []) (int 4 ∷ []) (int 1 ∷ []) c1 .pair
+
+abbrev pub pairStory : List (String × (SideCall × Told))
+pairStory =
+    ("A4 the first opens", (by First (setting (open-prediction three)), telling 0 (int 2 ∷ int 4 ∷ int 0 ∷ []) (int 2) (int 4) true))
+    ∷ ("A4 the partner open", (by Second (writing (set-q (int 9 ∷ []))), telling 3 [] (int 3) (int 4) true))
+    ∷ ("A4 before 1 and 5", (by Second (writing (set-kind 7 (record { residual = Turn nan }))), telling 3 [] (int 3) (int 4) true))
+    ∷ ("A4 itself open", (by First (writing (set-params c1)), telling 3 [] (int 2) (int 4) true))
+    ∷ ("A4 its own x", (by Second (setting (set-x (int 3 ∷ []))), telling 0 [] (int 3) (int 4) true))
+    ∷ ("A4 both open", (by Second (setting (open-prediction three)), telling 0 (int 3 ∷ int 5 ∷ int 1 ∷ []) (int 3) (int 4) true))
+    ∷ ("A4 the first closes", (by First (closing (close-prediction (int 2 ∷ int 4 ∷ int 0 ∷ []))), telling 0 [] (int 2) (int 5) false))
+    ∷ ("A4 the second abandons", (by Second abandon, telling 0 [] (int 3) (int 4) true))
+    ∷ ("A4 Q through the second", (by Second (writing (set-q (int 9 ∷ []))), telling 0 [] (int 3) (int 4) true))
+    ∷ ("A4 Q marks neither", (by First (reading read-stale), marking (int 2) (int 5) false))
+    ∷ ("A4 Q read by the first", (by First (reading (read-q three)), telling 0 (int 9 ∷ []) (int 2) (int 5) false))
+    ∷ ("A4 the second opens", (by Second (setting (open-prediction three)), telling 0 (int 3 ∷ int 5 ∷ int 1 ∷ []) (int 3) (int 4) true))
+    ∷ ("A4 predicted by that Q", (by Second (closing (close-prediction (int 3 ∷ int 5 ∷ int 1 ∷ []))), telling 0 [] (int 3) (int 13) false))
+    ∷ ("A4 a refusal marks nobody", (by First (writing (set-params c4)), telling 6 [] (int 2) (int 5) false))
+    ∷ ("A4 not the partner", (by Second (reading read-stale), marking (int 3) (int 13) false))
+    ∷ ("A4 parameters mark both", (by First (writing (set-params c1)), telling 0 [] (int 2) (int 5) true))
+    ∷ ("A4 the partner too", (by Second (reading read-stale), marking (int 3) (int 13) true))
     ∷ []
 
 abbrev pub agrees : Told → Told → Bool
@@ -162,7 +192,7 @@ agrees t e =
     eqb (t .reply .refusal) (e .reply .refusal)
     && ((t .reply .given are e .reply .given) && (Bool·beq (t .reply .stale) (e .reply .stale) && ((take 1 (t .x) are e .x) && ((take 1 (t .p) are e .p) && Bool·beq (t .stale) (e .stale)))))
 
-abbrev pub against : List (String × (Call × Told)) → List Told → List (String × Bool)
+abbrev pub against : {A : Type 0} → List (String × (A × Told)) → List Told → List (String × Bool)
 against [] ts = []
 against (e ∷ es) [] = (e .0, false) ∷ against es []
 against (e ∷ es) (t ∷ ts) = (e .0, agrees t (e .1 .1)) ∷ against es ts
@@ -209,5 +239,8 @@ flatCases = against flatStory (told binary64 at-first (map (λ e. e .1 .0) flatS
 abbrev pub settingCases : List (String × Bool)
 settingCases = against settingStory (told binary64 at-first (map (λ e. e .1 .0) settingStory))
 
+abbrev pub pairCases : List (String × Bool)
+pairCases = against pairStory (map (λ t. t .told) (pairTold binary64 both (map (λ e. e .1 .0) pairStory)))
+
 abbrev pub cases : List (String × Bool)
-cases = leafCases ++ (callCases ++ (flatCases ++ settingCases))
+cases = leafCases ++ (callCases ++ (flatCases ++ (settingCases ++ pairCases)))

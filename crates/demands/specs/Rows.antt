@@ -17,7 +17,7 @@ use Rattle.sigma.specs.Weights.{scaleOf, w0mOf, w0cOf, wiOf}
 use Rattle.filter.specs.declared.Filter.{Filter}
 use Rattle.filter.specs.Filters.{isCorrecting}
 use Rattle.filter.specs.Asked.{Size, Lent, Param, by-params, by-kind, Asks}
-use Rattle.filter.specs.Calls.{Call, setting, closing, abandon, reading, close-prediction, close-correction, close-correction-flat}
+use Rattle.filter.specs.Calls.{Call, writing, setting, closing, abandon, reading, close-prediction, close-correction, close-correction-flat}
 
 -- one of the list has P
 pub data Some {A : Type 0} (P : A → Type 0) : List A → Type 0 where
@@ -125,6 +125,7 @@ ByStep KIND = ⊥
 
 -- the one call that asks kinds to be plain
 abbrev pub IsFlat : Call → Type 0
+IsFlat (writing c) = ⊥
 IsFlat (setting c) = ⊥
 IsFlat (closing (close-prediction v)) = ⊥
 IsFlat (closing (close-correction m z r kinds observed)) = ⊥
@@ -134,13 +135,13 @@ IsFlat (reading c) = ⊥
 
 -- nothing stops a flat close before its kinds count: a correction is open, there are 1 to 8 states and 1 to 4 measurements, the slices are long enough and their numbers finite
 pub record Measurable (s : Filter) (m : ℕ) (z r observed : List Float) : Type 0 where
-  pub correcting : isCorrecting (s .stage) ≡ true
-  pub states : (1 ≤ s .n) × (s .n ≤ 8)
+  pub correcting : isCorrecting (s .track .stage) ≡ true
+  pub states : (1 ≤ s .sheet .n) × (s .sheet .n ≤ 8)
   pub measurements : (1 ≤ m) × (m ≤ 4)
-  pub long : (m ≤ length z) × (m * m ≤ length r) × ((s .n + s .n + 1) * m ≤ length observed)
+  pub long : (m ≤ length z) × (m * m ≤ length r) × ((s .sheet .n + s .sheet .n + 1) * m ≤ length observed)
   pub finite-z : allFinite (take m z) ≡ true
   pub finite-r : allFinite (take (m * m) r) ≡ true
-  pub finite-observed : allFinite (take ((s .n + s .n + 1) * m) observed) ≡ true
+  pub finite-observed : allFinite (take ((s .sheet .n + s .sheet .n + 1) * m) observed) ≡ true
 
 -- neither 5 nor 6
 abbrev pub Neither : ℕ → Type 0

@@ -4,6 +4,7 @@ use mathlib.Core.Bool.{Bool, true, false}
 use mathlib.Core.List.{List, [], _∷_, _++_}
 use lib.Ieee.{Float, Format}
 use Rattle.filter.specs.declared.Filter.{Filter}
+use Rattle.filter.specs.declared.Track.{Track}
 use Rattle.filter.specs.declared.Stage.the-variants.{Shut}
 use Rattle.filter.specs.Filters.{isShut}
 use Rattle.filter.specs.Calls.{Call, abandon}
@@ -17,7 +18,7 @@ pub record Told : Type 0 where
   pub stale : Bool
 
 unfoldable pub tells : Stepped → Told
-tells s = record { reply = s .reply; x = s .filter .x; p = s .filter .p; stale = s .filter .stale }
+tells s = record { reply = s .reply; x = s .filter .track .x; p = s .filter .track .p; stale = s .filter .track .stale }
 
 module _ (f : Format) where
   unfoldable pub told : Filter → List Call → List Told
@@ -31,24 +32,25 @@ module _ (f : Format) where
   ranTo s [] = s
   ranTo s (c ∷ cs) = ranTo (step f s c .filter) cs
 
--- two filters of one size, nothing open, both stale, with the same state, covariance, process noise, parameters and residual kinds, whatever their points, weights and scratch
-pub record Alike (s t : Filter) : Type 0 where
-  pub n : s .n ≡ t .n
+-- two tracks, nothing open, both stale, with the same state and covariance, whatever their points, weights and scratch
+pub record AlikeTracks (s t : Track) : Type 0 where
   pub x : s .x ≡ t .x
   pub p : s .p ≡ t .p
-  pub q : s .q ≡ t .q
-  pub params : s .params ≡ t .params
-  pub kinds : s .kinds ≡ t .kinds
   pub stale₁ : s .stale ≡ true
   pub stale₂ : t .stale ≡ true
   pub shut₁ : s .stage ≡ Shut
   pub shut₂ : t .stage ≡ Shut
 
+-- two such filters that agree on the sheet: one size, the same process noise, parameters and residual kinds
+pub record Alike (s t : Filter) : Type 0 where
+  pub sheet : s .sheet ≡ t .sheet
+  pub track : AlikeTracks (s .track) (t .track)
+
 module _ (f : Format) where
   -- s has a call open, and still has one after each of the calls
   abbrev pub StaysOpen : Filter → List Call → Type 0
-  StaysOpen s [] = isShut (s .stage) ≡ false
-  StaysOpen s (c ∷ cs) = (isShut (s .stage) ≡ false) × StaysOpen (step f s c .filter) cs
+  StaysOpen s [] = isShut (s .track .stage) ≡ false
+  StaysOpen s (c ∷ cs) = (isShut (s .track .stage) ≡ false) × StaysOpen (step f s c .filter) cs
 
   -- the second list is the first with some refused calls, and some opens with everything up to their abandon, struck out; the filter is the one that the first list is run on
   pub data Struck : Filter → List Call → List Call → Type 0 where
@@ -56,7 +58,7 @@ module _ (f : Format) where
     call-kept : {s : Filter} {c : Call} {cs ds : List Call} → Struck (step f s c .filter) cs ds → Struck s (c ∷ cs) (c ∷ ds)
     refused-struck : {s : Filter} {c : Call} {cs ds : List Call} → (step f s c .reply .refusal ≡ 0 → ⊥) → Struck (step f s c .filter) cs ds → Struck s (c ∷ cs) ds
     opening-struck :
-        {s : Filter} (c : Call) (mid : List Call) {cs ds : List Call} → isShut (s .stage) ≡ true → StaysOpen (step f s c .filter) mid
+        {s : Filter} (c : Call) (mid : List Call) {cs ds : List Call} → isShut (s .track .stage) ≡ true → StaysOpen (step f s c .filter) mid
         → Struck (ranTo f s (c ∷ mid ++ (abandon ∷ []))) cs ds → Struck s ((c ∷ mid ++ (abandon ∷ [])) ++ cs) ds
 
   -- what the run of the first list tells at the calls that are not struck

@@ -9,22 +9,25 @@ use Rattle.sigma.specs.Weights.{w0mOf}
 use Rattle.sigma.specs.Mean.{meanOf}
 use Rattle.sigma.specs.Spread.{deviationsOf, spreadOf}
 use Rattle.filter.specs.declared.Filter.{Filter}
-use Rattle.filter.specs.Calls.{SetCall, set-x, set-p, set-q, set-params, set-kind, open-prediction, open-correction, close-prediction, Call, setting, closing, abandon, reading}
+use Rattle.filter.specs.Calls.{SheetCall, set-q, set-params, set-kind, SetCall, set-x, set-p, open-prediction, open-correction, close-prediction, Call, writing, setting, closing, abandon, reading}
 use Rattle.filter.specs.Steps.{step}
 use Rattle.demands.specs.Sound.{Yielded}
 
 -- an accepted setting of x, P, the parameters or a kind marks stale; one of Q, or an open call, leaves the mark
+abbrev pub sheetMarks : SheetCall → Bool
+sheetMarks (set-q v) = false
+sheetMarks (set-params p) = true
+sheetMarks (set-kind i k) = true
+
 abbrev pub marks : SetCall → Bool
 marks (set-x v) = true
 marks (set-p v) = true
-marks (set-q v) = false
-marks (set-params p) = true
-marks (set-kind i k) = true
 marks (open-prediction b) = false
 marks (open-correction b) = false
 
 -- accepted, these leave x, P, the parameters, kinds, points, weights and the mark as they are: setting Q, opening, abandon, reading
 abbrev pub Unmarking : Call → Type 0
+Unmarking (writing c) = sheetMarks c ≡ false
 Unmarking (setting c) = marks c ≡ false
 Unmarking (closing c) = ⊥
 Unmarking abandon = Unit {0}
@@ -37,10 +40,10 @@ pub data SincePredicted (f : Format) : Filter → Type 0 where
 
 -- the Q of that prediction
 abbrev pub qThen : {f : Format} {s : Filter} → SincePredicted f s → List Float
-qThen (predicted {s = s} y v e) = s .q
+qThen (predicted {s = s} y v e) = s .sheet .q
 qThen (unmarked k c h) = qThen k
 
 -- x is the mean of the current points, and P is q + their spread, by the weights, parameters and kinds as they stand
 pub record OfPoints (f : Format) (s : Filter) (q : List Float) : Type 0 where
-  pub x : s .x ≡ meanOf f (s .points) (s .n) (s .n + s .n) (w0mOf f (s .n) (s .params)) (s .weights) (s .kinds)
-  pub p : let dx = deviationsOf f (s .points) (s .n) (s .n + s .n) (s .x) (s .kinds) in s .p ≡ plusOf f (s .n * s .n) q (spreadOf f dx (s .n) dx (s .n) (s .weights) (s .n + s .n))
+  pub x : s .track .x ≡ meanOf f (s .track .points) (s .sheet .n) (s .sheet .n + s .sheet .n) (w0mOf f (s .sheet .n) (s .sheet .params)) (s .track .weights) (s .sheet .kinds)
+  pub p : let dx = deviationsOf f (s .track .points) (s .sheet .n) (s .sheet .n + s .sheet .n) (s .track .x) (s .sheet .kinds) in s .track .p ≡ plusOf f (s .sheet .n * s .sheet .n) q (spreadOf f dx (s .sheet .n) dx (s .sheet .n) (s .track .weights) (s .sheet .n + s .sheet .n))

@@ -34,33 +34,33 @@ pub record Laid (f : Format) (n : ℕ) (p : Params) (w : Weighted) : Type 0 wher
 
 -- the points that an open call has drawn: in a correction while not stale the current ones; in any other those that the draw from x and P gives, by the parameters
 abbrev pub DrawnFrom : Format → Filter → Type 0
-DrawnFrom f s = cond (isCorrecting (s .stage) && not (s .stale)) (accepted (s .points)) (drawOf f (s .n) (s .x) (s .p) (scaleOf f (s .n) (s .params))) ≡ accepted (s .«drawn_points»)
+DrawnFrom f s = cond (isCorrecting (s .track .stage) && not (s .track .stale)) (accepted (s .track .points)) (drawOf f (s .sheet .n) (s .track .x) (s .track .p) (scaleOf f (s .sheet .n) (s .sheet .params))) ≡ accepted (s .track .«drawn_points»)
 
 -- THE INVARIANT
 pub record Sound (f : Format) (s : Filter) : Type 0 where
-  pub small : s .n ≤ 8
-  pub x : Filled (s .n) 8 (s .x)
-  pub p : Filled (s .n * s .n) 64 (s .p)
-  pub q : Filled (s .n * s .n) 64 (s .q)
+  pub small : s .sheet .n ≤ 8
+  pub x : Filled (s .sheet .n) 8 (s .track .x)
+  pub p : Filled (s .sheet .n * s .sheet .n) 64 (s .track .p)
+  pub q : Filled (s .sheet .n * s .sheet .n) 64 (s .sheet .q)
   -- stored parameters and kinds have passed 5 and 6; those of the empty filter, where n = 0, pass 6 for no number of states
-  pub params : allFinite (s .params .alpha ∷ s .params .beta ∷ s .params .kappa ∷ []) ≡ true
-  pub passed : 1 ≤ s .n → weightsPass f (s .n) (s .params) ≡ true
-  pub kinds : allFinite (inKinds (s .kinds)) ≡ true
-  pub turns : every (fit f) (asKinds (s .kinds)) ≡ true
-  pub eight : length (s .kinds) ≡ 8
+  pub params : allFinite (s .sheet .params .alpha ∷ s .sheet .params .beta ∷ s .sheet .params .kappa ∷ []) ≡ true
+  pub passed : 1 ≤ s .sheet .n → weightsPass f (s .sheet .n) (s .sheet .params) ≡ true
+  pub kinds : allFinite (inKinds (s .sheet .kinds)) ≡ true
+  pub turns : every (fit f) (asKinds (s .sheet .kinds)) ≡ true
+  pub eight : length (s .sheet .kinds) ≡ 8
   -- those past the states are plain
-  pub past : (i : ℕ) → s .n ≤ i → getD (s .kinds) i plain ≡ plain
+  pub past : (i : ℕ) → s .sheet .n ≤ i → getD (s .sheet .kinds) i plain ≡ plain
   -- the current points and weights count while not stale, the drawn ones while a call is open
-  pub current : s .stale ≡ false → Laid f (s .n) (s .params) (record { weights = s .weights; points = s .points })
-  pub drawn : isShut (s .stage) ≡ false → Laid f (s .n) (s .params) (record { weights = s .«drawn_weights»; points = s .«drawn_points» })
-  pub drawn-from : isShut (s .stage) ≡ false → DrawnFrom f s
+  pub current : s .track .stale ≡ false → Laid f (s .sheet .n) (s .sheet .params) (record { weights = s .track .weights; points = s .track .points })
+  pub drawn : isShut (s .track .stage) ≡ false → Laid f (s .sheet .n) (s .sheet .params) (record { weights = s .track .«drawn_weights»; points = s .track .«drawn_points» })
+  pub drawn-from : isShut (s .track .stage) ≡ false → DrawnFrom f s
 
 -- beside it, of a filter that no one has put at will: points and weights are finite with +0 in unused places while stale too, and scratch is +0 while nothing is open
 pub record Tidy (s : Filter) : Type 0 where
-  pub points : Filled (pointNumbers (s .n)) 136 (s .points)
-  pub weights : Filled (s .n + s .n + 1) 17 (s .weights)
-  pub scratch-weights : isShut (s .stage) ≡ true → s .«drawn_weights» ≡ zeros 17
-  pub scratch-points : isShut (s .stage) ≡ true → s .«drawn_points» ≡ zeros 136
+  pub points : Filled (pointNumbers (s .sheet .n)) 136 (s .track .points)
+  pub weights : Filled (s .sheet .n + s .sheet .n + 1) 17 (s .track .weights)
+  pub scratch-weights : isShut (s .track .stage) ≡ true → s .track .«drawn_weights» ≡ zeros 17
+  pub scratch-points : isShut (s .track .stage) ≡ true → s .track .«drawn_points» ≡ zeros 136
 
 module _ (f : Format) where
   -- the filters that New and later calls yield

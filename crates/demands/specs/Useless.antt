@@ -2,16 +2,17 @@
 use Prim.Native.String.{String}
 use mathlib.Core.Path.{_≡_}
 use mathlib.Core.Bool.{Bool, true, false, _&&_, cond}
-use mathlib.Core.List.{List, [], _∷_, map}
+use mathlib.Core.List.{List, [], _∷_, _++_, map}
 use mathlib.Core.Logic.{_↔_}
-use lib.ListN.{length, getD, replicate}
-use lib.Ieee.{nan, binary64}
+use lib.ListN.{length, take, getD, replicate}
+use lib.Ieee.{Float, nan, binary64}
 use Rattle.floats.specs.Refusal.{Refusal, number, refused}
 use Rattle.floats.specs.Numbers.{plusZero, zeros}
 use Rattle.matrix.specs.Results.{planned}
+use Rattle.filter.specs.declared.Track.{Track}
 use Rattle.filter.specs.declared.Filter.{Filter}
-use Rattle.filter.specs.Filters.{filter, seen}
-use Rattle.filter.specs.Calls.{SetCall, set-x, set-p, set-q, set-params, set-kind, open-prediction, open-correction, Call, setting, closing, abandon, reading, asks, plan}
+use Rattle.filter.specs.Filters.{track, filter, seen}
+use Rattle.filter.specs.Calls.{SetCall, set-x, set-p, open-prediction, open-correction, Call, writing, setting, closing, abandon, reading, asks, plan}
 use Rattle.filter.specs.Steps.{Stepped, stepped, step}
 use Rattle.demands.specs.Rows.{Due}
 use Rattle.demands.specs.Runs.{Told, tells, Alike}
@@ -54,8 +55,9 @@ refusing r s c = stepped s (refused r)
 abbrev pub constant : Build
 constant s c =
     let t = step binary64 s c in
+    let v = t .filter .track in
     record {
-      filter = filter (t .filter .n) (zeros 8) (zeros 64) (t .filter .q) (t .filter .params) (t .filter .kinds) (t .filter .weights) (t .filter .points) (t .filter .stale) (t .filter .stage) (t .filter .«drawn_weights») (t .filter .«drawn_points»);
+      filter = filter (t .filter .sheet) (track (zeros 8) (zeros 64) (v .weights) (v .points) (v .stale) (v .stage) (v .«drawn_weights») (v .«drawn_points»));
       reply = record { refusal = t .reply .refusal; given = zeros (length (t .reply .given)); stale = t .reply .stale };
     }
 
@@ -64,28 +66,33 @@ abbrev pub untouched : Build
 untouched s c = record { filter = s; reply = step binary64 s c .reply }
 
 -- redraws at the first correction only: where weights have been installed before, an open correction goes by them and their points, stale or not
-abbrev pub marked : Bool → Filter → Filter
-marked m s = filter (s .n) (s .x) (s .p) (s .q) (s .params) (s .kinds) (s .weights) (s .points) m (s .stage) (s .«drawn_weights») (s .«drawn_points»)
+abbrev pub marking : Bool → Filter → Filter
+marking m s = let t = s .track in filter (s .sheet) (track (t .x) (t .p) (t .weights) (t .points) m (t .stage) (t .«drawn_weights») (t .«drawn_points»))
 
 abbrev pub opensCorrection : SetCall → Bool
 opensCorrection (set-x v) = false
 opensCorrection (set-p v) = false
-opensCorrection (set-q v) = false
-opensCorrection (set-params p) = false
-opensCorrection (set-kind i k) = false
 opensCorrection (open-prediction b) = false
 opensCorrection (open-correction b) = true
 
 abbrev pub firstOnly : Build
+firstOnly s (writing c) = step binary64 s (writing c)
 firstOnly s (setting c) =
-    let t = step binary64 (marked (s .stale && (getD (s .weights) 1 nan is plusZero)) s) (setting c) in
-    cond (opensCorrection c) (record { filter = marked (s .stale) (t .filter); reply = t .reply }) (step binary64 s (setting c))
+    let t = step binary64 (marking (s .track .stale && (getD (s .track .weights) 1 nan is plusZero)) s) (setting c) in
+    cond (opensCorrection c) (record { filter = marking (s .track .stale) (t .filter); reply = t .reply }) (step binary64 s (setting c))
 firstOnly s (closing c) = step binary64 s (closing c)
 firstOnly s abandon = step binary64 s abandon
 firstOnly s (reading c) = step binary64 s (reading c)
 
--- ---- the filter of C9 with points, weights and scratch put at will
+-- ---- points, weights and scratch put at will; the filter of C9 with such
+
+-- a track with 3 and 6 for points and v for weights, current and drawn
+abbrev pub strewn : Track → Float → Track
+strewn t v = track (t .x) (t .p) (replicate 17 v) (replicate 136 (int 3)) (t .stale) (t .stage) (replicate 17 v) (replicate 136 (int 6))
 
 abbrev pub at-will : Filter
-at-will =
-    filter (at-first .n) (at-first .x) (at-first .p) (at-first .q) (at-first .params) (at-first .kinds) (replicate 17 (int 7)) (replicate 136 (int 3)) (at-first .stale) (at-first .stage) (replicate 17 (int 5)) (replicate 136 (int 6))
+at-will = filter (at-first .sheet) (strewn (at-first .track) (int 7))
+
+-- the first of each
+abbrev pub leftovers : Track → List Float
+leftovers t = take 1 (t .points) ++ (take 1 (t .weights) ++ (take 1 (t .«drawn_points») ++ take 1 (t .«drawn_weights»)))

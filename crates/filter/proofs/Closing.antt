@@ -39,20 +39,20 @@ correcting-open Correcting h = refl
 module _ (f : Format) (s : Filter) where
   -- the propagated points of a lent slice, and the plan of their close
   abbrev pub propagatedOf : List Float → List Float
-  propagatedOf v = front (pointNumbers (s .n)) v (zeros 136)
+  propagatedOf v = front (pointNumbers (s .sheet .n)) v (zeros 136)
 
   abbrev pub predicting : List Float → Plan Moment
-  predicting v = predictPlan f (s .n) (propagatedOf v) (w0mOf f (s .n) (s .params)) (s .«drawn_weights») (s .kinds) (s .q)
+  predicting v = predictPlan f (s .sheet .n) (propagatedOf v) (w0mOf f (s .sheet .n) (s .sheet .params)) (s .track .«drawn_weights») (s .sheet .kinds) (s .sheet .q)
 
-  pub predicting-is : (v : List Float) → isPredicting (s .stage) ≡ true → plan f (seen s) (closing (close-prediction v)) ≡ mapped (closed (s .«drawn_weights») (propagatedOf v) false) (predicting v)
-  predicting-is v h = let e = predicting-open (s .stage) h in rw e
+  pub predicting-is : (v : List Float) → isPredicting (s .track .stage) ≡ true → plan f (seen s) (closing (close-prediction v)) ≡ mapped (closed (s .track .«drawn_weights») (propagatedOf v) false) (predicting v)
+  predicting-is v h = let e = predicting-open (s .track .stage) h in rw e
 
   -- the two closes of a correction
-  pub correcting-is : (m : ℕ) (z r : List Float) (kinds : List Kind) (observed : List Float) → isCorrecting (s .stage) ≡ true → plan f (seen s) (closing (close-correction m z r kinds observed)) ≡ mapped (closed (s .«drawn_weights») (s .«drawn_points») true) (applyPlan f (weightedFrom f s m z r kinds observed))
-  correcting-is m z r kinds observed h = let e = correcting-open (s .stage) h in rw e
+  pub correcting-is : (m : ℕ) (z r : List Float) (kinds : List Kind) (observed : List Float) → isCorrecting (s .track .stage) ≡ true → plan f (seen s) (closing (close-correction m z r kinds observed)) ≡ mapped (closed (s .track .«drawn_weights») (s .track .«drawn_points») true) (applyPlan f (weightedFrom f s m z r kinds observed))
+  correcting-is m z r kinds observed h = let e = correcting-open (s .track .stage) h in rw e
 
-  pub correcting-flat-is : (m : ℕ) (z r observed : List Float) → isCorrecting (s .stage) ≡ true → plan f (seen s) (closing (close-correction-flat m z r observed)) ≡ mapped (closed (s .«drawn_weights») (s .«drawn_points») true) (applyPlan f (flatFrom f s m z r observed))
-  correcting-flat-is m z r observed h = let e = correcting-open (s .stage) h in rw e
+  pub correcting-flat-is : (m : ℕ) (z r observed : List Float) → isCorrecting (s .track .stage) ≡ true → plan f (seen s) (closing (close-correction-flat m z r observed)) ≡ mapped (closed (s .track .«drawn_weights») (s .track .«drawn_points») true) (applyPlan f (flatFrom f s m z r observed))
+  correcting-flat-is m z r observed h = let e = correcting-open (s .track .stage) h in rw e
 
 -- ---- what the steps have made: refused, or installed with the opened weights and points v
 
@@ -68,7 +68,7 @@ either s v stale m a made refused = go (eqb (m .refusal) 0) (λ h. eqb-true _ _ 
     go true h k = made (h refl)
     go false h k = refused (k refl)
 
-module _ {f : Format} {s : Filter} {c : Call} (t : Told f s c) (z : t .told ≡ 0) (v : List Float) (stale : Bool) (p : Plan Moment) (is : plan f (seen s) c ≡ mapped (closed (s .«drawn_weights») v stale) p) {m : Moments} (e : m ≡ moments (run p)) where
+module _ {f : Format} {s : Filter} {c : Call} (t : Told f s c) (z : t .told ≡ 0) (v : List Float) (stale : Bool) (p : Plan Moment) (is : plan f (seen s) c ≡ mapped (closed (s .track .«drawn_weights») v stale) p) {m : Moments} (e : m ≡ moments (run p)) where
   number-is : m .refusal ≡ moments (run p) .refusal
   number-is = ap (λ (x : Moments). x .refusal) e
 
@@ -77,5 +77,5 @@ module _ {f : Format} {s : Filter} {c : Call} (t : Told f s c) (z : t .told ≡ 
       d
       ∙ either s v stale m (answered (step f s c))
       (λ h. ap (λ (x : Moments). accepted-as (closedWith s v stale (x .x) (x .p))) e
-      ∙ ap answered (sym (made t z (closed (s .«drawn_weights») v stale) p is nothingMade (sym number-is ∙ h))))
-      (λ h. ap (λ (x : ℕ). answered (stayed s x)) number-is ∙ ap answered (sym (stopped t z (closed (s .«drawn_weights») v stale) p is (λ y. h (number-is ∙ y)))))
+      ∙ ap answered (sym (made t z (closed (s .track .«drawn_weights») v stale) p is nothingMade (sym number-is ∙ h))))
+      (λ h. ap (λ (x : ℕ). answered (stayed s x)) number-is ∙ ap answered (sym (stopped t z (closed (s .track .«drawn_weights») v stale) p is (λ y. h (number-is ∙ y)))))

@@ -4,7 +4,7 @@ use native.Mathlib.Numerals.{add-one}
 use native.Mathlib.Omega.{arith}
 use mathlib.Core.Path.{_≡_, refl, sym, ap, ap₂, _∙_}
 use mathlib.Core.Bool.{Bool, true, false, not, _&&_, false≢true}
-use mathlib.Core.List.{List, [], _∷_, _++_}
+use mathlib.Core.List.{List, [], _∷_}
 use lib.Dec.{eqb}
 use lib.ListN.{length, take, getD}
 use lib.Seq.{take-suc}
@@ -16,7 +16,7 @@ use Rattle.angles.specs.Kinds.{numbersIn, passes}
 use Rattle.angles.specs.declared.Kind.{Kind}
 use Rattle.filter.specs.Asked.{fit, clear, every}
 use Rattle.filter.specs.Calls.{inKinds, asKinds}
-use Rattle.filter.proofs.Sizes.{and-left, and-right}
+use Rattle.filter.proofs.Sizes.{and-left, and-right, every-append}
 
 -- ---- the first i pass the test t
 
@@ -24,14 +24,6 @@ pub record Passed (t : Kind → Bool) (s : List Kind) (i : ℕ) : Type 0 where
   pub is : every t (take i s) ≡ true
 
 module _ (t : Kind → Bool) where
-  every-append : (xs ys : List Kind) → every t (xs ++ ys) ≡ (every t xs && every t ys)
-  every-append [] ys = refl
-  every-append (x ∷ xs) ys = ap (λ (b : Bool). t x && b) (every-append xs ys) ∙ and-assoc (t x) (every t xs) (every t ys)
-    where
-      and-assoc : (a b c : Bool) → (a && (b && c)) ≡ ((a && b) && c)
-      and-assoc true b c = refl
-      and-assoc false b c = refl
-
   fails-in : (s : List Kind) (i m : ℕ) (d : Kind) → i < length s → i < m → t (getD s i d) ≡ false → every t (take m s) ≡ false
   fails-in [] i m d h g e = absurd (omega arith)
   fails-in (x ∷ s) i zero d h g e = absurd (omega arith)

@@ -30,10 +30,8 @@ module _ (f : Format) {fits : Bool} {n : ℕ} {sizes : List Size} {stale : Bool}
   pub long-le : {v : List Float} {k : ℕ} {lent : List Lent} → Passed f (line fits n sizes (record { slice = v; needs = k } ∷ lent) stale inputs params) → k ≤ length v
   long-le {v} {k} {lent} p = leb-true k (length v) (and-left (leb k (length v)) (every long lent) (p .long))
 
-  pub three-long : {a b d : List Float} {i j k : ℕ} → Passed f (line fits n sizes (lend a i ++ (lend b j ++ lend d k)) stale inputs params) → (i ≤ length a) × (j ≤ length b) × (k ≤ length d)
-  three-long {a} {b} {d} {i} {j} {k} p =
-      let t = and-right (leb i (length a)) (leb j (length b) && (leb k (length d) && true)) (p .long) in
-      (long-le p, leb-true j (length b) (and-left (leb j (length b)) (leb k (length d) && true) t), leb-true k (length d) (and-left (leb k (length d)) true (and-right (leb j (length b)) (leb k (length d) && true) t)))
+  pub two-long : {a v : List Float} {i k : ℕ} {lent : List Lent} → Passed f (line fits n sizes (lend a i ++ (record { slice = v; needs = k } ∷ lent)) stale inputs params) → k ≤ length v
+  two-long {a} {v} {i} {k} {lent} p = leb-true k (length v) (and-left (leb k (length v)) (every long lent) (and-right (leb i (length a)) (leb k (length v) && every long lent) (p .long)))
 
 -- ---- counts
 

@@ -12,7 +12,7 @@ use Rattle.filter.specs.declared.Stage.{Stage}
 use Rattle.filter.specs.declared.Stage.the-variants.{Shut, Predicting, Correcting}
 use Rattle.filter.specs.declared.Weighted.{Weighted}
 use Rattle.filter.specs.declared.Filter.{Filter}
-use Rattle.filter.specs.Filters.{isShut, isCorrecting, seen, Setting, opened-prediction, opened-correction, withDrawn, set}
+use Rattle.filter.specs.Filters.{filter, isShut, isCorrecting, seen, Setting, opened-prediction, opened-correction, sets, withDrawn, changed}
 use Rattle.filter.specs.Calls.{opening, lend, line, asks, opened, draws, plan}
 use Rattle.filter.proofs.Order.{Passed}
 use Rattle.filter.proofs.Lines.{sized-le, long-le}
@@ -22,31 +22,31 @@ toStage Shut = opened-prediction
 toStage Predicting = opened-prediction
 toStage Correcting = opened-correction
 
-pub set-opened : (s : Filter) (t : Stage) (d : Weighted) → isShut t ≡ false → withDrawn s t d ≡ set s (toStage t d)
+pub set-opened : (s : Filter) (t : Stage) (d : Weighted) → isShut t ≡ false → filter (s .sheet) (withDrawn (s .track) t d) ≡ changed s (sets (toStage t d))
 set-opened s Shut d h = absurd (true≢false h)
 set-opened s Predicting d h = refl
 set-opened s Correcting d h = refl
 
 module _ (s : Filter) (t : Stage) (b : List Float) where
-  pub opening-asks : line (isShut (s .stage)) (s .n) [] (lend b (pointNumbers (s .n))) false [] [] ≡ asks (seen s) (opening t b)
+  pub opening-asks : line (isShut (s .track .stage)) (s .sheet .n) [] (lend b (pointNumbers (s .sheet .n))) false [] [] ≡ asks (seen s) (opening t b)
   opening-asks = go t
     where
-      go : (t : Stage) → line (isShut (s .stage)) (s .n) [] (lend b (pointNumbers (s .n))) false [] [] ≡ asks (seen s) (opening t b)
+      go : (t : Stage) → line (isShut (s .track .stage)) (s .sheet .n) [] (lend b (pointNumbers (s .sheet .n))) false [] [] ≡ asks (seen s) (opening t b)
       go Shut = refl
       go Predicting = refl
       go Correcting = refl
 
-  pub opening-in : (f : Format) → Passed f (asks (seen s) (opening t b)) → (s .n ≤ 8) × (pointNumbers (s .n) ≤ length b)
+  pub opening-in : (f : Format) → Passed f (asks (seen s) (opening t b)) → (s .sheet .n ≤ 8) × (pointNumbers (s .sheet .n) ≤ length b)
   opening-in f p = let q = rw (sym opening-asks) at p in (sized-le f q, long-le f q)
 
 module _ (f : Format) (s : Filter) (b : List Float) where
   -- a correction that isn't stale
-  pub opening-current : (t : Stage) → (isCorrecting t && not (s .stale)) ≡ true → plan f (seen s) (opening t b) ≡ finish (opened (toStage t) (s .n) (s .weights) (s .points))
+  pub opening-current : (t : Stage) → (isCorrecting t && not (s .track .stale)) ≡ true → plan f (seen s) (opening t b) ≡ finish (opened (toStage t) (s .sheet .n) (s .track .weights) (s .track .points))
   opening-current Shut h = absurd (false≢true h)
   opening-current Predicting h = absurd (false≢true h)
-  opening-current Correcting h = let e : s .stale ≡ false = not-true (s .stale) h in rw e
+  opening-current Correcting h = let e : s .track .stale ≡ false = not-true (s .track .stale) h in rw e
 
-  pub opening-drawn : (t : Stage) → (isCorrecting t && not (s .stale)) ≡ false → plan f (seen s) (opening t b) ≡ draws f (toStage t) s
+  pub opening-drawn : (t : Stage) → (isCorrecting t && not (s .track .stale)) ≡ false → plan f (seen s) (opening t b) ≡ draws f (toStage t) s
   opening-drawn Shut h = refl
   opening-drawn Predicting h = refl
-  opening-drawn Correcting h = let e : s .stale ≡ true = not-false (s .stale) h in rw e
+  opening-drawn Correcting h = let e : s .track .stale ≡ true = not-false (s .track .stale) h in rw e

@@ -13,7 +13,7 @@ use Rattle.matrix.proofs.Mapped.{run-mapped}
 use Rattle.filter.specs.declared.Filter.{Filter}
 use Rattle.filter.specs.declared.Answer.{Answer}
 use Rattle.filter.specs.Asked.{Asks, guarded, firstRefusal}
-use Rattle.filter.specs.Filters.{seen, Setting, sets, reads}
+use Rattle.filter.specs.Filters.{seen, Change, reads}
 use Rattle.filter.specs.Calls.{Call, lend, line, asks, Done, done, plan}
 use Rattle.filter.specs.Steps.{Stepped, stepped, step, answered}
 use Rattle.filter.proofs.Order.{Passed, passed, goes-on, refuses, both-ways, number-given, unless-stale}
@@ -62,8 +62,8 @@ module _ {f : Format} {s : Filter} {c : Call} (t : Told f s c) where
     finished p = goes ∙ ap (λ (q : Plan Done). stepped s (run q)) p
 
     -- a setter: v is what it is to set
-    pub has-set : (to : List Float → Setting) {v w : List Float} → v ≡ w → plan f (seen s) c ≡ finish (done (sets (to w)) []) → answered (stepped s (accepted (done (sets (to v)) []))) ≡ answered (step f s c)
-    has-set to e p = ap (λ (u : List Float). answered (stepped s (accepted (done (sets (to u)) [])))) e ∙ ap answered (sym (finished p))
+    pub has-set : (to : List Float → Change) {v w : List Float} → v ≡ w → plan f (seen s) c ≡ finish (done (to w) []) → answered (stepped s (accepted (done (to v) []))) ≡ answered (step f s c)
+    has-set to e p = ap (λ (u : List Float). answered (stepped s (accepted (done (to u) [])))) e ∙ ap answered (sym (finished p))
 
     -- a plan that is passed on
     module _ {A : Type 0} (g : A → Done) (p : Plan A) (is : plan f (seen s) c ≡ mapped g p) where
@@ -79,13 +79,13 @@ module _ {f : Format} {s : Filter} {c : Call} (t : Told f s c) where
 -- ---- readings: of the first k numbers of w, which need only be v where they are not stale; j is k at sizes up to 8
 
 module _ (f : Format) (s : Filter) (c : Call) (k : ℕ) (stale : Bool) (b v w : List Float) where
-  pub has-read : {r j : ℕ} {b' : List Float} → asks (seen s) c ≡ line true (s .n) [] (lend b k) stale [] [] → plan f (seen s) c ≡ finish (done reads (take k w)) → (stale ≡ false → v ≡ w) → (s .n ≤ 8 → j ≡ k) → (r ≡ firstRefusal f (line true (s .n) [] (lend b j) stale [] [])) × (b' ≡ over (or [] (guarded f (line true (s .n) [] (lend b j) stale [] []) (accepted (take j v)))) b) → (r ≡ step f s c .reply .refusal) × (b' ≡ over (step f s c .reply .given) b)
+  pub has-read : {r j : ℕ} {b' : List Float} → asks (seen s) c ≡ line true (s .sheet .n) [] (lend b k) stale [] [] → plan f (seen s) c ≡ finish (done reads (take k w)) → (stale ≡ false → v ≡ w) → (s .sheet .n ≤ 8 → j ≡ k) → (r ≡ firstRefusal f (line true (s .sheet .n) [] (lend b j) stale [] [])) × (b' ≡ over (or [] (guarded f (line true (s .sheet .n) [] (lend b j) stale [] []) (accepted (take j v)))) b) → (r ≡ step f s c .reply .refusal) × (b' ≡ over (step f s c .reply .given) b)
   unfolding step run
   has-read {r} {j} {b'} p q same h e =
-      let a = line true (s .n) [] (lend b k) stale [] [] in
+      let a = line true (s .sheet .n) [] (lend b k) stale [] [] in
       let d = done reads (take k w) in
       let is : step f s c ≡ stepped s (guarded f a (accepted d)) = ap₂ (λ (x : Asks) (y : Plan Done). stepped s (guarded f x (run y))) p q in (
-        e .0 ∙ counted-first f true (s .n) (λ (i : ℕ). lend b i) stale (λ (i : ℕ). []) h ∙ sym (number-given f a d) ∙ both-ways f a refusal (λ (o : Outcome Done). stepped s o .reply .refusal) d d refl (λ x. refl) ∙ ap (λ (t : Stepped). t .reply .refusal) (sym is),
-        e .1 ∙ ap (λ (o : Outcome (List Float)). over (or [] o) b) (counted f true (s .n) (λ (i : ℕ). lend b i) stale (λ (i : ℕ). []) (λ (i : ℕ). accepted (take i v)) h ∙ unless-stale f a _ _ (λ z. ap (λ (l : List Float). accepted (take k l)) (same z)))
+        e .0 ∙ counted-first f true (s .sheet .n) (λ (i : ℕ). lend b i) stale (λ (i : ℕ). []) h ∙ sym (number-given f a d) ∙ both-ways f a refusal (λ (o : Outcome Done). stepped s o .reply .refusal) d d refl (λ x. refl) ∙ ap (λ (t : Stepped). t .reply .refusal) (sym is),
+        e .1 ∙ ap (λ (o : Outcome (List Float)). over (or [] o) b) (counted f true (s .sheet .n) (λ (i : ℕ). lend b i) stale (λ (i : ℕ). []) (λ (i : ℕ). accepted (take i v)) h ∙ unless-stale f a _ _ (λ z. ap (λ (l : List Float). accepted (take k l)) (same z)))
             ∙ ap (λ (l : List Float). over l b) (both-ways f a (or []) (λ (o : Outcome Done). stepped s o .reply .given) (take k w) d refl (λ x. refl) ∙ ap (λ (t : Stepped). t .reply .given) (sym is)),
       )

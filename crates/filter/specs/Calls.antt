@@ -20,17 +20,23 @@ use Rattle.correction.specs.Flat.{flatHead}
 use Rattle.filter.specs.declared.Stage.{Stage}
 use Rattle.filter.specs.declared.Stage.the-variants.{Shut, Predicting, Correcting}
 use Rattle.filter.specs.declared.Weighted.{Weighted}
+use Rattle.filter.specs.declared.Sheet.{Sheet}
 use Rattle.filter.specs.declared.Filter.{Filter}
 use Rattle.filter.specs.declared.measurement.Measurement.{Measurement}
 use Rattle.filter.specs.Asked.{Size, Lent, Param, by-params, by-kind, Asks}
-use Rattle.filter.specs.Filters.{isShut, isPredicting, isCorrecting, Setting, x-set, p-set, q-set, params-set, kinds-set, opened-prediction, opened-correction, Change, sets, closes, abandons, reads}
+use Rattle.filter.specs.Filters.{isShut, isPredicting, isCorrecting, Writing, q-set, params-set, kinds-set, Setting, x-set, p-set, opened-prediction, opened-correction, Change, writes, sets, closes, abandons, reads}
 
 -- ---- the calls with their inputs, by what may be open when they are taken: nothing; their own; anything. A list is a lent slice.
 
+-- with nothing open, those that change the sheet
+pub data SheetCall : Type 0 where
+  set-q : List Float → SheetCall
+  set-params : Params → SheetCall
+  set-kind : ℕ → Kind → SheetCall
+
+-- with nothing open, those that change the track
 pub data SetCall : Type 0 where
-  set-x set-p set-q : List Float → SetCall
-  set-params : Params → SetCall
-  set-kind : ℕ → Kind → SetCall
+  set-x set-p : List Float → SetCall
   open-prediction open-correction : List Float → SetCall
 
 pub data CloseCall : Type 0 where
@@ -45,6 +51,7 @@ pub data ReadCall : Type 0 where
   read-params read-stale : ReadCall
 
 pub data Call : Type 0 where
+  writing : SheetCall → Call
   setting : SetCall → Call
   closing : CloseCall → Call
   abandon : Call
@@ -64,6 +71,7 @@ ownOpen (close-correction m z r kinds observed) t = isCorrecting t
 ownOpen (close-correction-flat m z r observed) t = isCorrecting t
 
 abbrev pub fits : Call → Stage → Bool
+fits (writing c) t = isShut t
 fits (setting c) t = isShut t
 fits (closing c) t = ownOpen c t
 fits abandon t = not (isShut t)
@@ -113,33 +121,37 @@ lentMeasured n m z r observed = lend z m ++ (lend r (m * m) ++ lend observed (ob
 abbrev pub measurement : ℕ → ℕ → List Float → List Float → List Float → Measurement
 measurement n m z r observed = record { refusal = taken; z = front m z (zeros 8); r = front (m * m) r (zeros 64); observed = front (observedNumbers n m) observed (zeros 136) }
 
+-- a change of the sheet goes by the sheet alone
+abbrev pub sheetNeeds : Sheet → SheetCall → Needs
+sheetNeeds s (set-q v) = needing [] (lend v (s .n * s .n)) false (take (s .n * s .n) v) []
+sheetNeeds s (set-params p) = needing [] [] false (p .alpha ∷ p .beta ∷ p .kappa ∷ []) (by-params (s .n) p ∷ [])
+sheetNeeds s (set-kind i k) = needing (sized i 0 (s .n - 1)) [] false (numbersIn (k .residual)) (by-kind k ∷ [])
+
 abbrev pub needs : Filter → Call → Needs
-needs s (setting (set-x v)) = needing [] (lend v (s .n)) false (take (s .n) v) []
-needs s (setting (set-p v)) = needing [] (lend v (s .n * s .n)) false (take (s .n * s .n) v) []
-needs s (setting (set-q v)) = needing [] (lend v (s .n * s .n)) false (take (s .n * s .n) v) []
-needs s (setting (set-params p)) = needing [] [] false (p .alpha ∷ p .beta ∷ p .kappa ∷ []) (by-params (s .n) p ∷ [])
-needs s (setting (set-kind i k)) = needing (sized i 0 (s .n - 1)) [] false (numbersIn (k .residual)) (by-kind k ∷ [])
-needs s (setting (open-prediction b)) = needing [] (lend b (pointNumbers (s .n))) false [] []
-needs s (setting (open-correction b)) = needing [] (lend b (pointNumbers (s .n))) false [] []
-needs s (closing (close-prediction v)) = needing [] (lend v (pointNumbers (s .n))) false (take (pointNumbers (s .n)) v) []
+needs s (writing c) = sheetNeeds (s .sheet) c
+needs s (setting (set-x v)) = needing [] (lend v (s .sheet .n)) false (take (s .sheet .n) v) []
+needs s (setting (set-p v)) = needing [] (lend v (s .sheet .n * s .sheet .n)) false (take (s .sheet .n * s .sheet .n) v) []
+needs s (setting (open-prediction b)) = needing [] (lend b (pointNumbers (s .sheet .n))) false [] []
+needs s (setting (open-correction b)) = needing [] (lend b (pointNumbers (s .sheet .n))) false [] []
+needs s (closing (close-prediction v)) = needing [] (lend v (pointNumbers (s .sheet .n))) false (take (pointNumbers (s .sheet .n)) v) []
 needs s (closing (close-correction m z r kinds observed)) =
     needing (sized m 1 4)
-    (lentMeasured (s .n) m z r observed)
+    (lentMeasured (s .sheet .n) m z r observed)
     false
-    (take m z ++ (take (m * m) r ++ (inKinds (take m kinds) ++ take (observedNumbers (s .n) m) observed)))
+    (take m z ++ (take (m * m) r ++ (inKinds (take m kinds) ++ take (observedNumbers (s .sheet .n) m) observed)))
     (asKinds (take m kinds))
 needs s (closing (close-correction-flat m z r observed)) =
-    needingPlain (take (s .n) (s .kinds))
+    needingPlain (take (s .sheet .n) (s .sheet .kinds))
     (needing (sized m 1 4)
-    (lentMeasured (s .n) m z r observed)
+    (lentMeasured (s .sheet .n) m z r observed)
     false
-    (take m z ++ (take (m * m) r ++ take (observedNumbers (s .n) m) observed))
+    (take m z ++ (take (m * m) r ++ take (observedNumbers (s .sheet .n) m) observed))
     [])
 needs s abandon = needing [] [] false [] []
-needs s (reading (read-x b)) = needing [] (lend b (s .n)) false [] []
-needs s (reading (read-p b)) = needing [] (lend b (s .n * s .n)) false [] []
-needs s (reading (read-q b)) = needing [] (lend b (s .n * s .n)) false [] []
-needs s (reading (read-points b)) = needing [] (lend b (pointNumbers (s .n))) (s .stale) [] []
+needs s (reading (read-x b)) = needing [] (lend b (s .sheet .n)) false [] []
+needs s (reading (read-p b)) = needing [] (lend b (s .sheet .n * s .sheet .n)) false [] []
+needs s (reading (read-q b)) = needing [] (lend b (s .sheet .n * s .sheet .n)) false [] []
+needs s (reading (read-points b)) = needing [] (lend b (pointNumbers (s .sheet .n))) (s .track .stale) [] []
 needs s (reading read-params) = needing [] [] false [] []
 needs s (reading read-stale) = needing [] [] false [] []
 
@@ -151,7 +163,7 @@ abbrev pub line : Bool → ℕ → List Size → List Lent → Bool → List Flo
 line fits n sizes lent stale inputs params = asking fits n (needing sizes lent stale inputs params)
 
 abbrev pub asks : Filter → Call → Asks
-asks s c = asking (fits c (s .stage)) (s .n) (needs s c)
+asks s c = asking (fits c (s .track .stage)) (s .sheet .n) (needs s c)
 
 -- ---- what a call does once taken: its change, the numbers that it hands out, and what a reading of the stale mark answers (elsewhere true, which tells nothing)
 
@@ -162,6 +174,11 @@ pub record Done : Type 0 where
 
 abbrev pub done : Change → List Float → Done
 done c given = record { change = c; given = given; stale = true }
+
+abbrev pub writingOf : Sheet → SheetCall → Writing
+writingOf s (set-q v) = q-set (front (s .n * s .n) v (zeros 64))
+writingOf s (set-params p) = params-set p
+writingOf s (set-kind i k) = kinds-set (set (s .kinds) i k)
 
 -- the points drawn with their weights, or the current ones, written out
 abbrev pub opened : (Weighted → Setting) → ℕ → List Float → List Float → Done
@@ -174,36 +191,34 @@ closed weights points stale m = done (closes (record { x = m .x; p = m .p; insta
 module _ (f : Format) where
   -- weights and points drawn afresh
   abbrev pub draws : (Weighted → Setting) → Filter → Plan Done
-  draws to s = mapped (opened to (s .n) (weightsOf f (s .n) (s .params))) (drawPlan f (s .n) (s .x) (s .p) (scaleOf f (s .n) (s .params)))
+  draws to s = mapped (opened to (s .sheet .n) (weightsOf f (s .sheet .n) (s .sheet .params))) (drawPlan f (s .sheet .n) (s .track .x) (s .track .p) (scaleOf f (s .sheet .n) (s .sheet .params)))
 
   -- from where the steps that the two closes of a correction share start
   abbrev pub weightedFrom : Filter → ℕ → List Float → List Float → List Kind → List Float → Head
   weightedFrom s m z r kinds observed =
-      let v = measurement (s .n) m z r observed in
-      weightedHead f (given (s .n) m (s .x) (s .p) (s .«drawn_points») (v .observed) (w0mOf f (s .n) (s .params)) (s .«drawn_weights») (v .z) (v .r) (s .kinds) (widened kinds))
+      let v = measurement (s .sheet .n) m z r observed in
+      weightedHead f (given (s .sheet .n) m (s .track .x) (s .track .p) (s .track .«drawn_points») (v .observed) (w0mOf f (s .sheet .n) (s .sheet .params)) (s .track .«drawn_weights») (v .z) (v .r) (s .sheet .kinds) (widened kinds))
 
   abbrev pub flatFrom : Filter → ℕ → List Float → List Float → List Float → Head
   flatFrom s m z r observed =
-      let v = measurement (s .n) m z r observed in
-      flatHead f (s .n) m (s .x) (s .p) (s .«drawn_points») (v .observed) (v .z) (v .r)
+      let v = measurement (s .sheet .n) m z r observed in
+      flatHead f (s .sheet .n) m (s .track .x) (s .track .p) (s .track .«drawn_points») (v .observed) (v .z) (v .r)
 
   abbrev pub plan : Filter → Call → Plan Done
-  plan s (setting (set-x v)) = finish (done (sets (x-set (front (s .n) v (zeros 8)))) [])
-  plan s (setting (set-p v)) = finish (done (sets (p-set (front (s .n * s .n) v (zeros 64)))) [])
-  plan s (setting (set-q v)) = finish (done (sets (q-set (front (s .n * s .n) v (zeros 64)))) [])
-  plan s (setting (set-params p)) = finish (done (sets (params-set p)) [])
-  plan s (setting (set-kind i k)) = finish (done (sets (kinds-set (set (s .kinds) i k))) [])
+  plan s (writing c) = finish (done (writes (writingOf (s .sheet) c)) [])
+  plan s (setting (set-x v)) = finish (done (sets (x-set (front (s .sheet .n) v (zeros 8)))) [])
+  plan s (setting (set-p v)) = finish (done (sets (p-set (front (s .sheet .n * s .sheet .n) v (zeros 64)))) [])
   plan s (setting (open-prediction b)) = draws opened-prediction s
-  plan s (setting (open-correction b)) = cond (s .stale) (draws opened-correction s) (finish (opened opened-correction (s .n) (s .weights) (s .points)))
+  plan s (setting (open-correction b)) = cond (s .track .stale) (draws opened-correction s) (finish (opened opened-correction (s .sheet .n) (s .track .weights) (s .track .points)))
   plan s (closing (close-prediction v)) =
-      let points = front (pointNumbers (s .n)) v (zeros 136) in
-      mapped (closed (s .«drawn_weights») points false) (predictPlan f (s .n) points (w0mOf f (s .n) (s .params)) (s .«drawn_weights») (s .kinds) (s .q))
-  plan s (closing (close-correction m z r kinds observed)) = mapped (closed (s .«drawn_weights») (s .«drawn_points») true) (applyPlan f (weightedFrom s m z r kinds observed))
-  plan s (closing (close-correction-flat m z r observed)) = mapped (closed (s .«drawn_weights») (s .«drawn_points») true) (applyPlan f (flatFrom s m z r observed))
+      let points = front (pointNumbers (s .sheet .n)) v (zeros 136) in
+      mapped (closed (s .track .«drawn_weights») points false) (predictPlan f (s .sheet .n) points (w0mOf f (s .sheet .n) (s .sheet .params)) (s .track .«drawn_weights») (s .sheet .kinds) (s .sheet .q))
+  plan s (closing (close-correction m z r kinds observed)) = mapped (closed (s .track .«drawn_weights») (s .track .«drawn_points») true) (applyPlan f (weightedFrom s m z r kinds observed))
+  plan s (closing (close-correction-flat m z r observed)) = mapped (closed (s .track .«drawn_weights») (s .track .«drawn_points») true) (applyPlan f (flatFrom s m z r observed))
   plan s abandon = finish (done abandons [])
-  plan s (reading (read-x b)) = finish (done reads (take (s .n) (s .x)))
-  plan s (reading (read-p b)) = finish (done reads (take (s .n * s .n) (s .p)))
-  plan s (reading (read-q b)) = finish (done reads (take (s .n * s .n) (s .q)))
-  plan s (reading (read-points b)) = finish (done reads (take (pointNumbers (s .n)) (s .points)))
-  plan s (reading read-params) = finish (done reads (s .params .alpha ∷ s .params .beta ∷ s .params .kappa ∷ []))
-  plan s (reading read-stale) = finish (record { change = reads; given = []; stale = s .stale })
+  plan s (reading (read-x b)) = finish (done reads (take (s .sheet .n) (s .track .x)))
+  plan s (reading (read-p b)) = finish (done reads (take (s .sheet .n * s .sheet .n) (s .track .p)))
+  plan s (reading (read-q b)) = finish (done reads (take (s .sheet .n * s .sheet .n) (s .sheet .q)))
+  plan s (reading (read-points b)) = finish (done reads (take (pointNumbers (s .sheet .n)) (s .track .points)))
+  plan s (reading read-params) = finish (done reads (s .sheet .params .alpha ∷ s .sheet .params .beta ∷ s .sheet .params .kappa ∷ []))
+  plan s (reading read-stale) = finish (record { change = reads; given = []; stale = s .track .stale })

@@ -1,4 +1,4 @@
--- Filters: their fields in order, what a call may see of one, and the changes that an accepted call makes. A change says itself whatever it installs, so that nothing left over can reach what counts. Definitions only.
+-- Filters: a filter is a sheet and a track. What a call may see of one, and the changes that an accepted call makes, to the sheet or to the track. A change says itself whatever it installs, so that nothing left over can reach what counts. Definitions only.
 use Prim.Native.Nat.{ℕ}
 use mathlib.Core.Bool.{Bool, true, false, cond}
 use mathlib.Core.List.{List, []}
@@ -9,24 +9,18 @@ use Rattle.sigma.specs.declared.Params.{Params}
 use Rattle.filter.specs.declared.Stage.{Stage}
 use Rattle.filter.specs.declared.Stage.the-variants.{Shut, Predicting, Correcting}
 use Rattle.filter.specs.declared.Weighted.{Weighted}
+use Rattle.filter.specs.declared.Sheet.{Sheet}
+use Rattle.filter.specs.declared.Track.{Track}
 use Rattle.filter.specs.declared.Filter.{Filter}
 
-abbrev pub filter : ℕ → List Float → List Float → List Float → Params → List Kind → List Float → List Float → Bool → Stage → List Float → List Float → Filter
-filter n x p q params kinds weights points stale stage dw dp =
-    record {
-      n = n;
-      x = x;
-      p = p;
-      q = q;
-      params = params;
-      kinds = kinds;
-      weights = weights;
-      points = points;
-      stale = stale;
-      stage = stage;
-      «drawn_weights» = dw;
-      «drawn_points» = dp;
-    }
+abbrev pub sheet : ℕ → List Float → Params → List Kind → Sheet
+sheet n q params kinds = record { n = n; q = q; params = params; kinds = kinds }
+
+abbrev pub track : List Float → List Float → List Float → List Float → Bool → Stage → List Float → List Float → Track
+track x p weights points stale stage dw dp = record { x = x; p = p; weights = weights; points = points; stale = stale; stage = stage; «drawn_weights» = dw; «drawn_points» = dp }
+
+abbrev pub filter : Sheet → Track → Filter
+filter s t = record { sheet = s; track = t }
 
 -- ---- what is open
 
@@ -46,18 +40,25 @@ isCorrecting Predicting = false
 isCorrecting Correcting = true
 
 -- the filter as a call may see it: the current points and weights only while not stale, the drawn ones only while a call is open
+abbrev pub seenOf : Track → Track
+seenOf t =
+    track (t .x) (t .p) (cond (t .stale) [] (t .weights)) (cond (t .stale) [] (t .points)) (t .stale) (t .stage)
+    (cond (isShut (t .stage)) [] (t .«drawn_weights»)) (cond (isShut (t .stage)) [] (t .«drawn_points»))
+
 abbrev pub seen : Filter → Filter
-seen s =
-    filter (s .n) (s .x) (s .p) (s .q) (s .params) (s .kinds) (cond (s .stale) [] (s .weights)) (cond (s .stale) [] (s .points)) (s .stale) (s .stage)
-    (cond (isShut (s .stage)) [] (s .«drawn_weights»)) (cond (isShut (s .stage)) [] (s .«drawn_points»))
+seen s = filter (s .sheet) (seenOf (s .track))
 
 -- ---- changes
 
--- of a call taken with nothing open
+-- of a call that writes the sheet, taken with nothing open
+pub data Writing : Type 0 where
+  q-set : List Float → Writing
+  params-set : Params → Writing
+  kinds-set : List Kind → Writing
+
+-- of any other call taken with nothing open
 pub data Setting : Type 0 where
-  x-set p-set q-set : List Float → Setting
-  params-set : Params → Setting
-  kinds-set : List Kind → Setting
+  x-set p-set : List Float → Setting
   opened-prediction opened-correction : Weighted → Setting
 
 -- of a close: x, P, the points and weights that it installs, and the stale mark
@@ -68,41 +69,69 @@ pub record Closing : Type 0 where
   pub stale : Bool
 
 pub data Change : Type 0 where
+  writes : Writing → Change
   sets : Setting → Change
   closes : Closing → Change
   abandons reads : Change
 
+-- ---- what they leave. No setter touches points or weights; each but that of Q marks stale, the same number set again too
+
+abbrev pub written : Sheet → Writing → Sheet
+written s (q-set v) = sheet (s .n) v (s .params) (s .kinds)
+written s (params-set v) = sheet (s .n) (s .q) v (s .kinds)
+written s (kinds-set v) = sheet (s .n) (s .q) (s .params) v
+
+abbrev pub markedStale : Track → Track
+markedStale t = track (t .x) (t .p) (t .weights) (t .points) true (t .stage) (t .«drawn_weights») (t .«drawn_points»)
+
+-- of a track on the sheet that is written
+abbrev pub marked : Track → Writing → Track
+marked t (q-set v) = t
+marked t (params-set v) = markedStale t
+marked t (kinds-set v) = markedStale t
+
 -- a call is open, with what it has drawn
-abbrev pub withDrawn : Filter → Stage → Weighted → Filter
-withDrawn s t d = filter (s .n) (s .x) (s .p) (s .q) (s .params) (s .kinds) (s .weights) (s .points) (s .stale) t (d .weights) (d .points)
+abbrev pub withDrawn : Track → Stage → Weighted → Track
+withDrawn t stage d = track (t .x) (t .p) (t .weights) (t .points) (t .stale) stage (d .weights) (d .points)
 
 abbrev pub nothingDrawn : Weighted
 nothingDrawn = record { weights = zeros 17; points = zeros 136 }
 
--- no setter touches points or weights; each but that of Q marks stale, the same number set again too
-abbrev pub set : Filter → Setting → Filter
-set s (x-set v) = filter (s .n) v (s .p) (s .q) (s .params) (s .kinds) (s .weights) (s .points) true (s .stage) (s .«drawn_weights») (s .«drawn_points»)
-set s (p-set v) = filter (s .n) (s .x) v (s .q) (s .params) (s .kinds) (s .weights) (s .points) true (s .stage) (s .«drawn_weights») (s .«drawn_points»)
-set s (q-set v) = filter (s .n) (s .x) (s .p) v (s .params) (s .kinds) (s .weights) (s .points) (s .stale) (s .stage) (s .«drawn_weights») (s .«drawn_points»)
-set s (params-set v) = filter (s .n) (s .x) (s .p) (s .q) v (s .kinds) (s .weights) (s .points) true (s .stage) (s .«drawn_weights») (s .«drawn_points»)
-set s (kinds-set v) = filter (s .n) (s .x) (s .p) (s .q) (s .params) v (s .weights) (s .points) true (s .stage) (s .«drawn_weights») (s .«drawn_points»)
-set s (opened-prediction d) = withDrawn s Predicting d
-set s (opened-correction d) = withDrawn s Correcting d
+abbrev pub set : Track → Setting → Track
+set t (x-set v) = track v (t .p) (t .weights) (t .points) true (t .stage) (t .«drawn_weights») (t .«drawn_points»)
+set t (p-set v) = track (t .x) v (t .weights) (t .points) true (t .stage) (t .«drawn_weights») (t .«drawn_points»)
+set t (opened-prediction d) = withDrawn t Predicting d
+set t (opened-correction d) = withDrawn t Correcting d
 
 -- scratch goes to +0
-abbrev pub close : Filter → Closing → Filter
-close s c = filter (s .n) (c .x) (c .p) (s .q) (s .params) (s .kinds) (c .installed .weights) (c .installed .points) (c .stale) Shut (zeros 17) (zeros 136)
-
--- the same with these x and P, the points v and the opened weights
-abbrev pub closedWith : Filter → List Float → Bool → List Float → List Float → Filter
-closedWith s v stale x p = close s (record { x = x; p = p; installed = record { weights = s .«drawn_weights»; points = v }; stale = stale })
+abbrev pub close : Closing → Track
+close c = track (c .x) (c .p) (c .installed .weights) (c .installed .points) (c .stale) Shut (zeros 17) (zeros 136)
 
 -- in every bit but scratch, what it was before the open call; scratch is +0
-abbrev pub abandoned : Filter → Filter
-abandoned s = withDrawn s Shut nothingDrawn
+abbrev pub shut : Track → Track
+shut t = withDrawn t Shut nothingDrawn
+
+-- a change, of its sheet and of its track
+abbrev pub sheetAfter : Sheet → Change → Sheet
+sheetAfter s (writes c) = written s c
+sheetAfter s (sets c) = s
+sheetAfter s (closes c) = s
+sheetAfter s abandons = s
+sheetAfter s reads = s
+
+abbrev pub trackAfter : Track → Change → Track
+trackAfter t (writes c) = marked t c
+trackAfter t (sets c) = set t c
+trackAfter t (closes c) = close c
+trackAfter t abandons = shut t
+trackAfter t reads = t
 
 abbrev pub changed : Filter → Change → Filter
-changed s (sets c) = set s c
-changed s (closes c) = close s c
-changed s abandons = abandoned s
-changed s reads = s
+changed s c = filter (sheetAfter (s .sheet) c) (trackAfter (s .track) c)
+
+-- the two that are named by themselves: an open call abandoned; one closed with these x and P, the points v and the opened weights
+abbrev pub abandoned : Filter → Filter
+abandoned s = changed s abandons
+
+abbrev pub closedWith : Filter → List Float → Bool → List Float → List Float → Filter
+closedWith s v stale x p = changed s (closes (record { x = x; p = p; installed = record { weights = s .track .«drawn_weights»; points = v }; stale = stale }))

@@ -1,7 +1,8 @@
--- New: a filter from n, x, P, Q and the parameters; refused, the empty filter. Definitions only.
+-- New: a filter from n, x, P, Q and the parameters, a track on a sheet; refused, the empty filter. Each part is asked for by itself, and several tracks may stand on one sheet. Definitions only.
 use Prim.Native.Nat.{ℕ, _*_}
-use mathlib.Core.Bool.{true, false}
+use mathlib.Core.Bool.{true, false, cond}
 use mathlib.Core.List.{List, [], _∷_, _++_}
+use lib.Dec.{eqb, ltb}
 use lib.ListN.{take, replicate}
 use lib.Ieee.{Float, Format}
 use Rattle.floats.specs.Refusal.{Outcome, accepted, refusal, or}
@@ -10,32 +11,96 @@ use Rattle.floats.specs.Fronts.{front}
 use Rattle.angles.specs.Kinds.{plain}
 use Rattle.sigma.specs.declared.Params.{Params}
 use Rattle.filter.specs.declared.Stage.the-variants.{Shut}
+use Rattle.filter.specs.declared.Sheet.{Sheet}
+use Rattle.filter.specs.declared.Track.{Track}
 use Rattle.filter.specs.declared.Filter.{Filter}
 use Rattle.filter.specs.declared.Answer.{Answer}
-use Rattle.filter.specs.Asked.{by-params, Asks, guarded}
-use Rattle.filter.specs.Filters.{filter}
+use Rattle.filter.specs.declared.new.NewSheet.{NewSheet}
+use Rattle.filter.specs.declared.new.NewTrack.{NewTrack}
+use Rattle.filter.specs.Asked.{Lent, by-params, Asks, guarded}
+use Rattle.filter.specs.Filters.{sheet, track, filter}
 use Rattle.filter.specs.Calls.{lend, line}
 
--- stale, all kinds plain, nothing open; points, weights and scratch at +0
-abbrev pub fresh : ℕ → List Float → List Float → List Float → Params → Filter
-fresh n x p q params = filter n x p q params (replicate 8 plain) (zeros 17) (zeros 136) true Shut (zeros 17) (zeros 136)
+-- all kinds plain
+abbrev pub freshSheet : ℕ → List Float → Params → Sheet
+freshSheet n q params = sheet n q params (replicate 8 plain)
+
+-- stale, nothing open; points, weights and scratch at +0
+abbrev pub freshTrack : List Float → List Float → Track
+freshTrack x p = track x p (zeros 17) (zeros 136) true Shut (zeros 17) (zeros 136)
 
 -- n = 0, every number +0, stale, nothing open
+abbrev pub emptySheet : Sheet
+emptySheet = freshSheet 0 (zeros 64) (record { alpha = plusZero; beta = plusZero; kappa = plusZero })
+
+abbrev pub emptyTrack : Track
+emptyTrack = freshTrack (zeros 8) (zeros 64)
+
 abbrev pub empty : Filter
-empty = fresh 0 (zeros 8) (zeros 64) (zeros 64) (record { alpha = plusZero; beta = plusZero; kappa = plusZero })
+empty = filter emptySheet emptyTrack
 
-module _ (f : Format) (n : ℕ) (x p q : List Float) (params : Params) where
-  abbrev pub newAsks : Asks
-  newAsks =
-      line true n []
-      (lend x n ++ (lend p (n * n) ++ lend q (n * n)))
-      false
-      (take n x ++ (take (n * n) p ++ (take (n * n) q ++ (params .alpha ∷ params .beta ∷ params .kappa ∷ []))))
-      (by-params n params ∷ [])
+-- ---- what is asked
 
-  unfoldable pub newOf : Outcome Filter
+-- what a track starts from, as lent: a state and its covariance
+pub record Start : Type 0 where
+  pub x : List Float
+  pub p : List Float
+
+abbrev pub from : List Float → List Float → Start
+from x p = record { x = x; p = p }
+
+-- the slices and the numbers that come in: each start's in turn, then those of the sheet
+abbrev pub lentAt : ℕ → Start → List Lent
+lentAt n s = lend (s .x) n ++ lend (s .p) (n * n)
+
+abbrev pub lentFor : ℕ → List Start → List Float → List Lent
+lentFor n [] q = lend q (n * n)
+lentFor n (s ∷ ss) q = lentAt n s ++ lentFor n ss q
+
+abbrev pub numbersAt : ℕ → Start → List Float
+numbersAt n s = take n (s .x) ++ take (n * n) (s .p)
+
+abbrev pub numbersFor : ℕ → List Start → List Float → Params → List Float
+numbersFor n [] q params = take (n * n) q ++ (params .alpha ∷ params .beta ∷ params .kappa ∷ [])
+numbersFor n (s ∷ ss) q params = numbersAt n s ++ numbersFor n ss q params
+
+-- of tracks of n states at these starts on one sheet; of one start alone
+abbrev pub newAsks : ℕ → List Start → List Float → Params → Asks
+newAsks n starts q params = line true n [] (lentFor n starts q) false (numbersFor n starts q params) (by-params n params ∷ [])
+
+abbrev pub startAsks : ℕ → Start → Asks
+startAsks n s = line true n [] (lentAt n s) false (numbersAt n s) []
+
+-- ---- what is made
+
+abbrev pub sheetFrom : ℕ → List Float → Params → Sheet
+sheetFrom n q params = freshSheet n (front (n * n) q (zeros 64)) params
+
+abbrev pub trackFrom : ℕ → Start → Track
+trackFrom n s = freshTrack (front n (s .x) (zeros 8)) (front (n * n) (s .p) (zeros 64))
+
+module _ (f : Format) (n : ℕ) where
+  unfoldable pub newSheetOf : List Float → Params → Outcome Sheet
   unfolding guarded
-  newOf = guarded f newAsks (accepted (fresh n (front n x (zeros 8)) (front (n * n) p (zeros 64)) (front (n * n) q (zeros 64)) params))
+  newSheetOf q params = guarded f (newAsks n [] q params) (accepted (sheetFrom n q params))
 
-  abbrev pub newAnswer : Answer
-  newAnswer = record { filter = or empty newOf; refusal = refusal newOf }
+  abbrev pub newSheet : List Float → Params → NewSheet
+  newSheet q params = record { refusal = refusal (newSheetOf q params); sheet = or emptySheet (newSheetOf q params) }
+
+  unfoldable pub newTrackOf : Start → Outcome Track
+  unfolding guarded
+  newTrackOf s = guarded f (startAsks n s) (accepted (trackFrom n s))
+
+  abbrev pub newTrack : Start → NewTrack
+  newTrack s = record { refusal = refusal (newTrackOf s); track = or emptyTrack (newTrackOf s) }
+
+  unfoldable pub newOf : List Float → List Float → List Float → Params → Outcome Filter
+  unfolding guarded
+  newOf x p q params = guarded f (newAsks n (from x p ∷ []) q params) (accepted (filter (sheetFrom n q params) (trackFrom n (from x p))))
+
+  abbrev pub newAnswer : List Float → List Float → List Float → Params → Answer
+  newAnswer x p q params = record { filter = or empty (newOf x p q params); refusal = refusal (newOf x p q params) }
+
+-- of the numbers that two parts of a New give the one that comes first in the order (1, 2, 5, 6: that of the numbers), and 0 where both are
+unfoldable pub sooner : ℕ → ℕ → ℕ
+sooner a b = cond (eqb a 0) b (cond (eqb b 0) a (cond (ltb b a) b a))

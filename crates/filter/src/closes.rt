@@ -5,7 +5,8 @@ ghost use Rattle.filter.specs.Calls.{closing, close-prediction, close-co
 ghost use Rattle.filter.specs.Steps.{step, answered, closedBy};
 use crate::Answer;
 use crate::Filter;
-use crate::drawn;
+use crate::Stage;
+use crate::Track;
 use crate::fronts;
 use crate::measurement;
 use crate::tests;
@@ -26,17 +27,22 @@ impl Filter {
                 refusal: made.refusal,
             };
         }
+        let sheet = self.sheet;
         let x = made.x;
         let p = made.p;
-        let weights = self.drawn_weights;
-        let mut f = drawn::shut(self);
-        f.x = x;
-        f.p = p;
-        f.weights = weights;
-        f.points = points;
-        f.stale = stale;
+        let weights = self.track.drawn_weights;
+        let track = Track {
+            x,
+            p,
+            weights,
+            points,
+            stale,
+            stage: Stage::Shut,
+            drawn_weights: [0.0; 17],
+            drawn_points: [0.0; 136],
+        };
         Answer {
-            filter: f,
+            filter: Filter { sheet, track },
             refusal: 0,
         }
     }
@@ -44,8 +50,10 @@ impl Filter {
     pub fn close_prediction(self, points: &[f64]) -> Answer
         ensures { λ r. ⌜ r ≡ answered (step binary64 self (closing (close-prediction (now (points .entry))))) ⌝ }
     {
-        let n = self.n;
-        let stage = self.stage;
+        let sheet = self.sheet;
+        let track = self.track;
+        let n = sheet.n;
+        let stage = track.stage;
         let predicting = tests::is_predicting(stage);
         let k = tests::point_numbers(n, n);
         let refusal = tests::slice_refusal(predicting, n, k, points);
@@ -56,11 +64,11 @@ impl Filter {
             };
         }
         let propagated = fronts::points(points, k);
-        let params = self.params;
+        let params = sheet.params;
         let w0m = weights::center_weight(n, params);
-        let w = self.drawn_weights;
-        let kinds = self.kinds;
-        let q = self.q;
+        let w = track.drawn_weights;
+        let kinds = sheet.kinds;
+        let q = sheet.q;
         let made = predict::reconstruct_prediction(n, &propagated, w0m, &w, kinds, &q);
         self.close(made, propagated, false)
     }
@@ -75,8 +83,10 @@ impl Filter {
     ) -> Answer
         ensures { λ a. ⌜ a ≡ answered (step binary64 self (closing (close-correction m (now (z .entry)) (now (r .entry)) kinds (now (observed .entry))))) ⌝ }
     {
-        let n = self.n;
-        let stage = self.stage;
+        let sheet = self.sheet;
+        let track = self.track;
+        let n = sheet.n;
+        let stage = track.stage;
         let correcting = tests::is_correcting(stage);
         let turns_finite = tests::no_kind_refused(m, kinds, 5);
         let passing = tests::no_kind_refused(m, kinds, 6);
@@ -100,13 +110,13 @@ impl Filter {
         let z = lent.z;
         let r = lent.r;
         let observed = lent.observed;
-        let params = self.params;
+        let params = sheet.params;
         let w0m = weights::center_weight(n, params);
-        let x = self.x;
-        let p = self.p;
-        let points = self.drawn_points;
-        let w = self.drawn_weights;
-        let state_kinds = self.kinds;
+        let x = track.x;
+        let p = track.p;
+        let points = track.drawn_points;
+        let w = track.drawn_weights;
+        let state_kinds = sheet.kinds;
         let made = correction::correct_with_weights_residuals(
             n,
             m,
@@ -128,10 +138,12 @@ impl Filter {
     pub fn close_correction_flat(self, m: usize, z: &[f64], r: &[f64], observed: &[f64]) -> Answer
         ensures { λ a. ⌜ a ≡ answered (step binary64 self (closing (close-correction-flat m (now (z .entry)) (now (r .entry)) (now (observed .entry))))) ⌝ }
     {
-        let n = self.n;
-        let stage = self.stage;
+        let sheet = self.sheet;
+        let track = self.track;
+        let n = sheet.n;
+        let stage = track.stage;
         let correcting = tests::is_correcting(stage);
-        let kinds = self.kinds;
+        let kinds = sheet.kinds;
         let plain = tests::all_plain(n, kinds);
         let lent = measurement::take_in(correcting, n, m, z, r, observed, true, plain, true);
         if lent.refusal != 0 {
@@ -143,9 +155,9 @@ impl Filter {
         let z = lent.z;
         let r = lent.r;
         let observed = lent.observed;
-        let x = self.x;
-        let p = self.p;
-        let points = self.drawn_points;
+        let x = track.x;
+        let p = track.p;
+        let points = track.drawn_points;
         let made = flat::correct_nonlinear(n, m, &x, &p, &points, &observed, &z, &r);
         self.close(made, points, true)
     }

@@ -1,33 +1,26 @@
-// What an open call has drawn, beside the filter as it was.
+// What an open call has drawn, beside the track as it was.
 ghost use mathlib.Core.Path.{_≡_};
-ghost use Rattle.filter.specs.Filters.{withDrawn, abandoned};
-use crate::Filter;
+ghost use Rattle.filter.specs.Filters.{withDrawn, shut};
 use crate::Stage;
+use crate::Track;
 use crate::Weighted;
 
 // At a stage, with what has been drawn.
-pub fn with_drawn(f: Filter, stage: Stage, d: Weighted) -> Filter
-    ensures { λ r. ⌜ r ≡ withDrawn f stage d ⌝ }
+pub fn with_drawn(t: Track, stage: Stage, d: Weighted) -> Track
+    ensures { λ r. ⌜ r ≡ withDrawn t stage d ⌝ }
 {
-    let x = f.x;
-    let p = f.p;
-    let q = f.q;
-    let params = f.params;
-    let kinds = f.kinds;
-    let weights = f.weights;
-    let points = f.points;
+    let x = t.x;
+    let p = t.p;
+    let weights = t.weights;
+    let points = t.points;
     let drawn_weights = d.weights;
     let drawn_points = d.points;
-    Filter {
-        n: f.n,
+    Track {
         x,
         p,
-        q,
-        params,
-        kinds,
         weights,
         points,
-        stale: f.stale,
+        stale: t.stale,
         stage,
         drawn_weights,
         drawn_points,
@@ -35,10 +28,10 @@ pub fn with_drawn(f: Filter, stage: Stage, d: Weighted) -> Filter
 }
 
 // Nothing open, and scratch at +0.
-pub fn shut(f: Filter) -> Filter
-    ensures { λ r. ⌜ r ≡ abandoned f ⌝ }
+pub fn shut(t: Track) -> Track
+    ensures { λ r. ⌜ r ≡ shut t ⌝ }
 {
     let weights = [0.0; 17];
     let points = [0.0; 136];
-    with_drawn(f, Stage::Shut, Weighted { weights, points })
+    with_drawn(t, Stage::Shut, Weighted { weights, points })
 }

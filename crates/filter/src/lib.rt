@@ -26,20 +26,30 @@ pub struct Weighted {
     pub points: [f64; 136],
 }
 
-// A filter of n states: flat arrays sized for 8. Unused places hold +0; while nothing is open, so do the places of what an open call has drawn.
-pub struct Filter {
+// The settings sheet: how many states, process noise, parameters and residual kinds. Flat arrays sized for 8 states; unused places hold +0, unused kinds are plain.
+pub struct Sheet {
     pub n: usize,
-    pub x: [f64; 8],
-    pub p: [f64; 64],
     pub q: [f64; 64],
     pub params: Params,
     pub kinds: [Kind; 8],
+}
+
+// The rest of a filter: its state and covariance, current points and weights, what is open and what that has drawn. Unused places hold +0; while nothing is open, so do the places of what an open call has drawn.
+pub struct Track {
+    pub x: [f64; 8],
+    pub p: [f64; 64],
     pub weights: [f64; 17],
     pub points: [f64; 136],
     pub stale: bool,
     pub stage: Stage,
     pub drawn_weights: [f64; 17],
     pub drawn_points: [f64; 136],
+}
+
+// A filter: a track on a sheet.
+pub struct Filter {
+    pub sheet: Sheet,
+    pub track: Track,
 }
 
 // The next filter with the answer number.

@@ -1,30 +1,52 @@
-// New: a filter from n, x, P, Q and the parameters; refused, the empty filter.
+// New: a filter from n, x, P, Q and the parameters, a track on a sheet; refused, the empty filter. Each part is made by itself, and several tracks may be put on one sheet.
 ghost use mathlib.Core.Path.{_≡_};
 ghost use lib.Ieee.{binary64};
-ghost use Rattle.filter.specs.New.{fresh, empty, newAnswer};
+ghost use Rattle.filter.specs.New.{freshSheet, freshTrack, from, newSheet, newTrack, newAnswer, emptySheet, emptyTrack, sooner};
 use crate::Answer;
 use crate::Filter;
+use crate::Sheet;
 use crate::Stage;
+use crate::Track;
 use crate::fronts;
 use crate::tests;
 use angles::Kind;
 use angles::Residual;
 use sigma::Params;
 
-// Stale, all kinds plain, nothing open; points, weights and what an open call has drawn at +0.
-fn fresh(n: usize, x: [f64; 8], p: [f64; 64], q: [f64; 64], params: Params) -> Filter
-    ensures { λ r. ⌜ r ≡ fresh n x p q params ⌝ }
+// A new sheet with the answer number; refused, the empty filter's.
+pub struct NewSheet {
+    pub refusal: u8,
+    pub sheet: Sheet,
+}
+
+// A new track with the answer number; refused, the empty filter's.
+pub struct NewTrack {
+    pub refusal: u8,
+    pub track: Track,
+}
+
+// All kinds plain.
+fn fresh_sheet(n: usize, q: [f64; 64], params: Params) -> Sheet
+    ensures { λ r. ⌜ r ≡ freshSheet n q params ⌝ }
 {
     let plain = Kind {
         residual: Residual::Plain,
     };
-    Filter {
+    Sheet {
         n,
-        x,
-        p,
         q,
         params,
         kinds: [plain; 8],
+    }
+}
+
+// Stale, nothing open; points, weights and what an open call has drawn at +0.
+fn fresh_track(x: [f64; 8], p: [f64; 64]) -> Track
+    ensures { λ r. ⌜ r ≡ freshTrack x p ⌝ }
+{
+    Track {
+        x,
+        p,
         weights: [0.0; 17],
         points: [0.0; 136],
         stale: true,
@@ -35,37 +57,102 @@ fn fresh(n: usize, x: [f64; 8], p: [f64; 64], q: [f64; 64], params: Params) -> F
 }
 
 // n = 0 and every number +0.
-fn empty() -> Filter
-    ensures { λ r. ⌜ r ≡ empty ⌝ }
+pub fn empty_sheet() -> Sheet
+    ensures { λ r. ⌜ r ≡ emptySheet ⌝ }
 {
     let params = Params {
         alpha: 0.0,
         beta: 0.0,
         kappa: 0.0,
     };
-    fresh(0, [0.0; 8], [0.0; 64], [0.0; 64], params)
+    fresh_sheet(0, [0.0; 64], params)
+}
+
+pub fn empty_track() -> Track
+    ensures { λ r. ⌜ r ≡ emptyTrack ⌝ }
+{
+    fresh_track([0.0; 8], [0.0; 64])
+}
+
+impl Sheet {
+    pub fn new(n: usize, q: &[f64], params: Params) -> NewSheet
+        ensures { λ r. ⌜ r ≡ newSheet binary64 n (now (q .entry)) params ⌝ }
+    {
+        let k = tests::square(n);
+        let sized = tests::is_sized(n);
+        let q_finite = floats::all_finite(q, k);
+        let params_finite = tests::params_finite(params);
+        let finite = tests::both(q_finite, params_finite);
+        let passing = tests::params_pass(n, params);
+        let refusal = tests::first_refusal(true, sized, k <= q.len(), false, finite, true, passing);
+        if refusal != 0 {
+            let sheet = empty_sheet();
+            return NewSheet { refusal, sheet };
+        }
+        let q = fronts::matrix(q, k);
+        let sheet = fresh_sheet(n, q, params);
+        NewSheet { refusal: 0, sheet }
+    }
+}
+
+impl Track {
+    pub fn new(n: usize, x: &[f64], p: &[f64]) -> NewTrack
+        ensures { λ r. ⌜ r ≡ newTrack binary64 n (from (now (x .entry)) (now (p .entry))) ⌝ }
+    {
+        let k = tests::square(n);
+        let sized = tests::is_sized(n);
+        let long = tests::both(n <= x.len(), k <= p.len());
+        let x_finite = floats::all_finite(x, n);
+        let p_finite = floats::all_finite(p, k);
+        let finite = tests::both(x_finite, p_finite);
+        let refusal = tests::first_refusal(true, sized, long, false, finite, true, true);
+        if refusal != 0 {
+            let track = empty_track();
+            return NewTrack { refusal, track };
+        }
+        let x = fronts::vector(x, n);
+        let p = fronts::matrix(p, k);
+        let track = fresh_track(x, p);
+        NewTrack { refusal: 0, track }
+    }
+}
+
+// Of the numbers that two parts of a New give the one that comes first in the order 1, 2, 5, 6; 0 where both are.
+pub fn sooner(a: u8, b: u8) -> u8
+    ensures { λ r. ⌜ r ≡ sooner a b ⌝ }
+{
+    if a == 0 {
+        return b;
+    }
+    if b == 0 {
+        return a;
+    }
+    if b < a {
+        return b;
+    }
+    a
 }
 
 impl Filter {
     pub fn new(n: usize, x: &[f64], p: &[f64], q: &[f64], params: Params) -> Answer
         ensures { λ r. ⌜ r ≡ newAnswer binary64 n (now (x .entry)) (now (p .entry)) (now (q .entry)) params ⌝ }
     {
-        let k = tests::square(n);
-        let sized = tests::is_sized(n);
-        let long = tests::all_long(x, n, p, k, q, k);
-        let slices_finite = tests::fronts_finite(x, n, p, k, q, k);
-        let params_finite = tests::params_finite(params);
-        let finite = tests::both(slices_finite, params_finite);
-        let passing = tests::params_pass(n, params);
-        let refusal = tests::first_refusal(true, sized, long, false, finite, true, passing);
+        let a = Track::new(n, x, p);
+        let b = Sheet::new(n, q, params);
+        let refusal = sooner(a.refusal, b.refusal);
         if refusal != 0 {
-            let filter = empty();
-            return Answer { filter, refusal };
+            let sheet = empty_sheet();
+            let track = empty_track();
+            return Answer {
+                filter: Filter { sheet, track },
+                refusal,
+            };
         }
-        let x = fronts::vector(x, n);
-        let p = fronts::matrix(p, k);
-        let q = fronts::matrix(q, k);
-        let filter = fresh(n, x, p, q, params);
-        Answer { filter, refusal: 0 }
+        let sheet = b.sheet;
+        let track = a.track;
+        Answer {
+            filter: Filter { sheet, track },
+            refusal: 0,
+        }
     }
 }

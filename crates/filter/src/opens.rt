@@ -6,7 +6,7 @@ ghost use lib.ListN.{length, take};
 ghost use lib.Ieee.{binary64};
 ghost use Rattle.floats.specs.Fronts.{over};
 ghost use Rattle.sigma.specs.Draw.{pointNumbers};
-ghost use Rattle.filter.specs.Filters.{isShut, withDrawn};
+ghost use Rattle.filter.specs.Filters.{filter, isShut, withDrawn};
 ghost use Rattle.filter.specs.Calls.{setting, open-prediction, open-correction, opening, abandon};
 ghost use Rattle.filter.specs.Steps.{step, answered};
 use crate::Answer;
@@ -22,16 +22,21 @@ use sigma::weights;
 impl Filter {
     // The call is open, and its points are written out.
     fn opened(self, stage: Stage, d: Weighted, out: &mut [f64]) -> Answer
-        requires { ⌜ (self .n ≤ 8) × (pointNumbers (self .n) ≤ length (now out)) ⌝ }
-        ensures { λ r. ⌜ r ≡ record { filter = withDrawn self stage d; refusal = 0 } ⌝ }
-        ensures { λ r. ⌜ now (out .exit) ≡ over (take (pointNumbers (self .n)) (d .points)) (now (out .entry)) ⌝ }
+        requires { ⌜ (self .sheet .n ≤ 8) × (pointNumbers (self .sheet .n) ≤ length (now out)) ⌝ }
+        ensures { λ r. ⌜ r ≡ record { filter = filter (self .sheet) (withDrawn (self .track) stage d); refusal = 0 } ⌝ }
+        ensures { λ r. ⌜ now (out .exit) ≡ over (take (pointNumbers (self .sheet .n)) (d .points)) (now (out .entry)) ⌝ }
     {
-        let n = self.n;
+        let n = self.sheet.n;
         let k = tests::point_numbers(n, n);
         let points = d.points;
         fronts::copy_front(&points, k, out);
-        let filter = drawn::with_drawn(self, stage, d);
-        Answer { filter, refusal: 0 }
+        let sheet = self.sheet;
+        let before = self.track;
+        let track = drawn::with_drawn(before, stage, d);
+        Answer {
+            filter: Filter { sheet, track },
+            refusal: 0,
+        }
     }
 
     // An open call by the stage that it leads to. A correction that isn't stale has the current weights and points; else they are drawn afresh.
@@ -40,8 +45,10 @@ impl Filter {
         ensures { λ r. ⌜ r ≡ answered (step binary64 self (opening stage (now (out .entry)))) ⌝ }
         ensures { λ r. ⌜ now (out .exit) ≡ over (step binary64 self (opening stage (now (out .entry))) .reply .given) (now (out .entry)) ⌝ }
     {
-        let n = self.n;
-        let before = self.stage;
+        let sheet = self.sheet;
+        let track = self.track;
+        let n = sheet.n;
+        let before = track.stage;
         let shut = tests::is_shut(before);
         let sized = tests::is_sized(n);
         let k = tests::point_numbers(n, n);
@@ -52,16 +59,16 @@ impl Filter {
                 refusal,
             };
         }
-        let stale = self.stale;
+        let stale = track.stale;
         let correcting = tests::is_correcting(stage);
         if tests::both(correcting, !stale) {
-            let weights = self.weights;
-            let points = self.points;
+            let weights = track.weights;
+            let points = track.points;
             return self.opened(stage, Weighted { weights, points }, out);
         }
-        let x = self.x;
-        let p = self.p;
-        let params = self.params;
+        let x = track.x;
+        let p = track.p;
+        let params = sheet.params;
         let scale = weights::scale(n, params);
         let d = draw::generate_sigma_points(n, &x, &p, scale);
         if d.refusal != 0 {
@@ -92,8 +99,10 @@ impl Filter {
     pub fn abandon(self) -> Answer
         ensures { λ r. ⌜ r ≡ answered (step binary64 self abandon) ⌝ }
     {
-        let n = self.n;
-        let stage = self.stage;
+        let sheet = self.sheet;
+        let before = self.track;
+        let n = sheet.n;
+        let stage = before.stage;
         let shut = tests::is_shut(stage);
         let sized = tests::is_sized(n);
         let refusal = tests::first_refusal(!shut, sized, true, false, true, true, true);
@@ -103,7 +112,10 @@ impl Filter {
                 refusal,
             };
         }
-        let filter = drawn::shut(self);
-        Answer { filter, refusal: 0 }
+        let track = drawn::shut(before);
+        Answer {
+            filter: Filter { sheet, track },
+            refusal: 0,
+        }
     }
 }

@@ -37,8 +37,8 @@ impl Filter {
         ensures { λ r. ⌜ r ≡ step binary64 self (reading (read-x (now (out .entry)))) .reply .refusal ⌝ }
         ensures { λ r. ⌜ now (out .exit) ≡ over (step binary64 self (reading (read-x (now (out .entry)))) .reply .given) (now (out .entry)) ⌝ }
     {
-        let n = self.n;
-        let x = self.x;
+        let n = self.sheet.n;
+        let x = self.track.x;
         read(n, n, false, &x, out)
     }
 
@@ -46,9 +46,9 @@ impl Filter {
         ensures { λ r. ⌜ r ≡ step binary64 self (reading (read-p (now (out .entry)))) .reply .refusal ⌝ }
         ensures { λ r. ⌜ now (out .exit) ≡ over (step binary64 self (reading (read-p (now (out .entry)))) .reply .given) (now (out .entry)) ⌝ }
     {
-        let n = self.n;
+        let n = self.sheet.n;
         let k = tests::square(n);
-        let p = self.p;
+        let p = self.track.p;
         read(n, k, false, &p, out)
     }
 
@@ -56,9 +56,9 @@ impl Filter {
         ensures { λ r. ⌜ r ≡ step binary64 self (reading (read-q (now (out .entry)))) .reply .refusal ⌝ }
         ensures { λ r. ⌜ now (out .exit) ≡ over (step binary64 self (reading (read-q (now (out .entry)))) .reply .given) (now (out .entry)) ⌝ }
     {
-        let n = self.n;
+        let n = self.sheet.n;
         let k = tests::square(n);
-        let q = self.q;
+        let q = self.sheet.q;
         read(n, k, false, &q, out)
     }
 
@@ -66,16 +66,16 @@ impl Filter {
         ensures { λ r. ⌜ r ≡ step binary64 self (reading (read-points (now (out .entry)))) .reply .refusal ⌝ }
         ensures { λ r. ⌜ now (out .exit) ≡ over (step binary64 self (reading (read-points (now (out .entry)))) .reply .given) (now (out .entry)) ⌝ }
     {
-        let n = self.n;
+        let n = self.sheet.n;
         let k = tests::point_numbers(n, n);
-        let points = self.points;
-        read(n, k, self.stale, &points, out)
+        let points = self.track.points;
+        read(n, k, self.track.stale, &points, out)
     }
 
     pub fn read_params(self) -> ParamsRead
         ensures { λ r. ⌜ r ≡ paramsRead (step binary64 self (reading read-params) .reply) ⌝ }
     {
-        let n = self.n;
+        let n = self.sheet.n;
         let sized = tests::is_sized(n);
         let refusal = tests::first_refusal(true, sized, true, false, true, true, true);
         if refusal != 0 {
@@ -86,14 +86,14 @@ impl Filter {
             };
             return ParamsRead { refusal, params };
         }
-        let params = self.params;
+        let params = self.sheet.params;
         ParamsRead { refusal: 0, params }
     }
 
     pub fn read_stale(self) -> StaleRead
         ensures { λ r. ⌜ r ≡ staleRead (step binary64 self (reading read-stale) .reply) ⌝ }
     {
-        let n = self.n;
+        let n = self.sheet.n;
         let sized = tests::is_sized(n);
         let refusal = tests::first_refusal(true, sized, true, false, true, true, true);
         if refusal != 0 {
@@ -104,7 +104,7 @@ impl Filter {
         }
         StaleRead {
             refusal: 0,
-            stale: self.stale,
+            stale: self.track.stale,
         }
     }
 }

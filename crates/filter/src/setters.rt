@@ -1,7 +1,7 @@
 // Set x, P, Q, the parameters and a kind. None of them touches points or weights; each but that of Q marks the filter stale.
 ghost use mathlib.Core.Path.{_≡_};
 ghost use lib.Ieee.{binary64};
-ghost use Rattle.filter.specs.Calls.{setting, set-x, set-p, set-q, set-params, set-kind};
+ghost use Rattle.filter.specs.Calls.{writing, setting, set-x, set-p, set-q, set-params, set-kind};
 ghost use Rattle.filter.specs.Steps.{step, answered};
 use crate::Answer;
 use crate::Filter;
@@ -14,8 +14,10 @@ impl Filter {
     pub fn set_x(self, src: &[f64]) -> Answer
         ensures { λ r. ⌜ r ≡ answered (step binary64 self (setting (set-x (now (src .entry))))) ⌝ }
     {
-        let n = self.n;
-        let stage = self.stage;
+        let sheet = self.sheet;
+        let mut track = self.track;
+        let n = sheet.n;
+        let stage = track.stage;
         let shut = tests::is_shut(stage);
         let refusal = tests::slice_refusal(shut, n, n, src);
         if refusal != 0 {
@@ -25,11 +27,10 @@ impl Filter {
             };
         }
         let x = fronts::vector(src, n);
-        let mut f = self;
-        f.stale = true;
-        f.x = x;
+        track.stale = true;
+        track.x = x;
         Answer {
-            filter: f,
+            filter: Filter { sheet, track },
             refusal: 0,
         }
     }
@@ -37,8 +38,10 @@ impl Filter {
     pub fn set_p(self, src: &[f64]) -> Answer
         ensures { λ r. ⌜ r ≡ answered (step binary64 self (setting (set-p (now (src .entry))))) ⌝ }
     {
-        let n = self.n;
-        let stage = self.stage;
+        let sheet = self.sheet;
+        let mut track = self.track;
+        let n = sheet.n;
+        let stage = track.stage;
         let shut = tests::is_shut(stage);
         let k = tests::square(n);
         let refusal = tests::slice_refusal(shut, n, k, src);
@@ -49,20 +52,21 @@ impl Filter {
             };
         }
         let p = fronts::matrix(src, k);
-        let mut f = self;
-        f.stale = true;
-        f.p = p;
+        track.stale = true;
+        track.p = p;
         Answer {
-            filter: f,
+            filter: Filter { sheet, track },
             refusal: 0,
         }
     }
 
     pub fn set_q(self, src: &[f64]) -> Answer
-        ensures { λ r. ⌜ r ≡ answered (step binary64 self (setting (set-q (now (src .entry))))) ⌝ }
+        ensures { λ r. ⌜ r ≡ answered (step binary64 self (writing (set-q (now (src .entry))))) ⌝ }
     {
-        let n = self.n;
-        let stage = self.stage;
+        let mut sheet = self.sheet;
+        let track = self.track;
+        let n = sheet.n;
+        let stage = track.stage;
         let shut = tests::is_shut(stage);
         let k = tests::square(n);
         let refusal = tests::slice_refusal(shut, n, k, src);
@@ -73,19 +77,20 @@ impl Filter {
             };
         }
         let q = fronts::matrix(src, k);
-        let mut f = self;
-        f.q = q;
+        sheet.q = q;
         Answer {
-            filter: f,
+            filter: Filter { sheet, track },
             refusal: 0,
         }
     }
 
     pub fn set_params(self, params: Params) -> Answer
-        ensures { λ r. ⌜ r ≡ answered (step binary64 self (setting (set-params params))) ⌝ }
+        ensures { λ r. ⌜ r ≡ answered (step binary64 self (writing (set-params params))) ⌝ }
     {
-        let n = self.n;
-        let stage = self.stage;
+        let mut sheet = self.sheet;
+        let mut track = self.track;
+        let n = sheet.n;
+        let stage = track.stage;
         let shut = tests::is_shut(stage);
         let sized = tests::is_sized(n);
         let finite = tests::params_finite(params);
@@ -97,20 +102,21 @@ impl Filter {
                 refusal,
             };
         }
-        let mut f = self;
-        f.stale = true;
-        f.params = params;
+        track.stale = true;
+        sheet.params = params;
         Answer {
-            filter: f,
+            filter: Filter { sheet, track },
             refusal: 0,
         }
     }
 
     pub fn set_kind(self, i: usize, kind: Kind) -> Answer
-        ensures { λ r. ⌜ r ≡ answered (step binary64 self (setting (set-kind i kind))) ⌝ }
+        ensures { λ r. ⌜ r ≡ answered (step binary64 self (writing (set-kind i kind))) ⌝ }
     {
-        let n = self.n;
-        let stage = self.stage;
+        let mut sheet = self.sheet;
+        let mut track = self.track;
+        let n = sheet.n;
+        let stage = track.stage;
         let shut = tests::is_shut(stage);
         let states = tests::is_sized(n);
         let sized = tests::both(states, i < n);
@@ -122,11 +128,10 @@ impl Filter {
                 refusal,
             };
         }
-        let mut f = self;
-        f.stale = true;
-        f.kinds[i] = kind;
+        track.stale = true;
+        sheet.kinds[i] = kind;
         Answer {
-            filter: f,
+            filter: Filter { sheet, track },
             refusal: 0,
         }
     }

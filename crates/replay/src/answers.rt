@@ -106,9 +106,9 @@ pub fn close(a: Answer, out: &mut [u8], used: usize) -> Turn
         return number(a, out, used);
     }
     let filter = a.filter;
-    let n = filter.n;
-    let x = filter.x;
-    let p = filter.p;
+    let n = filter.sheet.n;
+    let x = filter.track.x;
+    let p = filter.track.p;
     let at = put_states(out, used, b"0 x", &x, n);
     let at = put_matrix(out, at, b" P", &p, n);
     Turn {
@@ -209,10 +209,10 @@ fn put_stage(out: &mut [u8], used: usize, stage: Stage) -> usize {
 
 // Of a filter: its size, x, P and Q.
 fn put_values(out: &mut [u8], used: usize, filter: Filter) -> usize {
-    let n = filter.n;
-    let x = filter.x;
-    let p = filter.p;
-    let q = filter.q;
+    let n = filter.sheet.n;
+    let x = filter.track.x;
+    let p = filter.track.p;
+    let q = filter.sheet.q;
     let at = script::put(out, used, b"0 n ");
     let at = script::put_decimal(out, at, n as u64);
     let at = put_states(out, at, b" x", &x, n);
@@ -222,9 +222,9 @@ fn put_values(out: &mut [u8], used: usize, filter: Filter) -> usize {
 
 // Of a filter: its parameters and kinds.
 fn put_settings(out: &mut [u8], used: usize, filter: Filter) -> usize {
-    let n = filter.n;
-    let given = filter.params;
-    let kinds = filter.kinds;
+    let n = filter.sheet.n;
+    let given = filter.sheet.params;
+    let kinds = filter.sheet.kinds;
     let at = script::put(out, used, b" par");
     let at = put_params(out, at, given);
     let at = script::put(out, at, b" kinds");
@@ -233,21 +233,22 @@ fn put_settings(out: &mut [u8], used: usize, filter: Filter) -> usize {
 
 // Of a filter: its weights, points and stale mark.
 fn put_current(out: &mut [u8], used: usize, filter: Filter) -> usize {
-    let n = filter.n;
-    let weights = filter.weights;
-    let points = filter.points;
+    let n = filter.sheet.n;
+    let weights = filter.track.weights;
+    let points = filter.track.points;
     let at = put_weights(out, used, b" w", &weights);
     let at = put_points(out, at, b" pts", &points, n);
     let at = script::put(out, at, b" stale");
-    put_bit(out, at, filter.stale)
+    put_bit(out, at, filter.track.stale)
 }
 
 // Of a filter: what is open, and what that has drawn.
 fn put_drawn(out: &mut [u8], used: usize, filter: Filter) -> usize {
-    let n = filter.n;
-    let stage = filter.stage;
-    let weights = filter.drawn_weights;
-    let points = filter.drawn_points;
+    let n = filter.sheet.n;
+    let track = filter.track;
+    let stage = track.stage;
+    let weights = track.drawn_weights;
+    let points = track.drawn_points;
     let at = put_stage(out, used, stage);
     let at = put_weights(out, at, b" dw", &weights);
     put_points(out, at, b" dpts", &points, n)

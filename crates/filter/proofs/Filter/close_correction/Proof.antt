@@ -28,10 +28,10 @@ abbrev call : tie.Start → Call
 call s = closing (close-correction (s .args .m) (now (s .args .z)) (now (s .args .r)) (s .args .kinds) (now (s .args .observed)))
 
 abbrev start : tie.After-take-in → tie.Start
-start c = c .before .before .before .before .before .before .before
+start c = c .before .before .before .before .before .before .before .before .before
 
 abbrev lending : tie.After-take-in → Lending
-lending c = let a = start c .args in record { fits = c .before .before .before .is-correcting .result; n = a .self .n; m = a .m; z = now (a .z); r = now (a .r); observed = now (a .observed); turns = c .before .before .no-kind-refused .result; plain = true; passing = c .before .no-kind-refused2 .result }
+lending c = let a = start c .args in record { fits = c .before .before .before .is-correcting .result; n = a .self .sheet .n; m = a .m; z = now (a .z); r = now (a .r); observed = now (a .observed); turns = c .before .before .no-kind-refused .result; plain = true; passing = c .before .no-kind-refused2 .result }
 
 abbrev lent : (c : tie.After-take-in) → Lent (lending c) (c .take-in .result)
 lent c = record { is = c .take-in .ensures }
@@ -41,7 +41,7 @@ asked c =
     let a = start c .args in
     let z = take (a .m) (now (a .z)) in
     let r = take (a .m * a .m) (now (a .r)) in
-    let observed = take (observedNumbers (a .self .n) (a .m)) (now (a .observed)) in
+    let observed = take (observedNumbers (a .self .sheet .n) (a .m)) (now (a .observed)) in
     let turns = take (a .m) (a .kinds) in record {
       told = _;
       is =
@@ -60,14 +60,14 @@ made-is c =
     let a = start (went c .before .before) .args in
     let s = a .self in
     c .correct-with-weights-residuals .ensures
-    ∙ ap₂ (λ (v : Measurement) (w : Float). moments (correctOf binary64 (given (s .n) (a .m) (s .x) (s .p) (s .«drawn_points») (v .observed) w (s .«drawn_weights») (v .z) (v .r) (s .kinds) (widened (a .kinds))))) (taken-in (lent (went c .before .before)) (went c .if1 .left)) (c .before .before .before .before .before .before .before .before .before .before .before .before .before .center-weight .ensures)
+    ∙ ap₂ (λ (v : Measurement) (w : Float). moments (correctOf binary64 (given (s .sheet .n) (a .m) (s .track .x) (s .track .p) (s .track .«drawn_points») (v .observed) w (s .track .«drawn_weights») (v .z) (v .r) (s .sheet .kinds) (widened (a .kinds))))) (taken-in (lent (went c .before .before)) (went c .if1 .left)) (c .before .before .before .before .before .before .before .before .before .before .before .before .before .center-weight .ensures)
 
 returns-2 : tie.Need-returns-2
 returns-2 c =
     let d = went (c .before) in
     let a = start (d .before .before) .args in
     let s = a .self in
-    closes-so (asked (d .before .before)) (d .if1 .left) (s .«drawn_points») true _
+    closes-so (asked (d .before .before)) (d .if1 .left) (s .track .«drawn_points») true _
     (correcting-is binary64 s (a .m) (now (a .z)) (now (a .r)) (a .kinds) (now (a .observed)) (all-passed (asked (d .before .before)) (d .if1 .left) .fits)) (made-is (c .before)) (c .close .ensures)
 
 pub close-correction-spec : {M : Type 1} → statement M

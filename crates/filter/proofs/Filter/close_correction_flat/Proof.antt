@@ -23,10 +23,10 @@ abbrev call : tie.Start → Call
 call s = closing (close-correction-flat (s .args .m) (now (s .args .z)) (now (s .args .r)) (now (s .args .observed)))
 
 abbrev start : tie.After-take-in → tie.Start
-start c = c .before .before .before .before .before .before .before
+start c = c .before .before .before .before .before .before .before .before .before
 
 abbrev lending : tie.After-take-in → Lending
-lending c = let a = start c .args in record { fits = c .before .before .before .is-correcting .result; n = a .self .n; m = a .m; z = now (a .z); r = now (a .r); observed = now (a .observed); turns = true; plain = c .before .all-plain .result; passing = true }
+lending c = let a = start c .args in record { fits = c .before .before .before .is-correcting .result; n = a .self .sheet .n; m = a .m; z = now (a .z); r = now (a .r); observed = now (a .observed); turns = true; plain = c .before .all-plain .result; passing = true }
 
 abbrev lent : (c : tie.After-take-in) → Lent (lending c) (c .take-in .result)
 lent c = record { is = c .take-in .ensures }
@@ -43,14 +43,14 @@ made-is c =
     let a = start (went c .before .before) .args in
     let s = a .self in
     c .correct-nonlinear .ensures
-    ∙ ap (λ (v : Measurement). moments (flatOf binary64 (s .n) (a .m) (s .x) (s .p) (s .«drawn_points») (v .observed) (v .z) (v .r))) (taken-in (lent (went c .before .before)) (went c .if1 .left))
+    ∙ ap (λ (v : Measurement). moments (flatOf binary64 (s .sheet .n) (a .m) (s .track .x) (s .track .p) (s .track .«drawn_points») (v .observed) (v .z) (v .r))) (taken-in (lent (went c .before .before)) (went c .if1 .left))
 
 returns-2 : tie.Need-returns-2
 returns-2 c =
     let d = went (c .before) in
     let a = start (d .before .before) .args in
     let s = a .self in
-    closes-so (asked (d .before .before)) (d .if1 .left) (s .«drawn_points») true _
+    closes-so (asked (d .before .before)) (d .if1 .left) (s .track .«drawn_points») true _
     (correcting-flat-is binary64 s (a .m) (now (a .z)) (now (a .r)) (now (a .observed)) (all-passed (asked (d .before .before)) (d .if1 .left) .fits)) (made-is (c .before)) (c .close .ensures)
 
 pub close-correction-flat-spec : {M : Type 1} → statement M

@@ -21,32 +21,32 @@ use Rattle.filter.proofs.Closing.{propagatedOf, predicting, predicting-
 use Rattle.filter.proofs.Filter.close_prediction.Statement.{statement}
 use Rattle.filter.proofs.Filter.close_prediction.Tie as tie
 
-abbrev asked : (c : tie.After-slice-refusal) → Told binary64 (c .before .before .before .before .args .self) (closing (close-prediction (now (c .before .before .before .before .args .points))))
+abbrev asked : (c : tie.After-slice-refusal) → Told binary64 (c .before .before .before .before .before .before .args .self) (closing (close-prediction (now (c .before .before .before .before .before .before .args .points))))
 asked c = record { told = _; is = slice-first binary64 _ (c .slice-refusal .ensures) (c .before .before .is-predicting .ensures) (λ h. c .before .point-numbers .ensures ∙ within-both _ _ _ h h) }
 
 -- 1 to 8 states, and the numbers of their points
-sized-at : (c : tie.Else1) → c .before .before .before .before .before .args .self .n ≤ 8
+sized-at : (c : tie.Else1) → c .before .before .before .before .before .before .before .args .self .sheet .n ≤ 8
 sized-at c = sized-le binary64 (all-passed (asked (c .before)) (c .if1 .left))
 
-counted : (c : tie.Else1) → c .before .before .point-numbers .result ≡ pointNumbers (c .before .before .before .before .before .args .self .n)
+counted : (c : tie.Else1) → c .before .before .point-numbers .result ≡ pointNumbers (c .before .before .before .before .before .before .before .args .self .sheet .n)
 counted c = c .before .before .point-numbers .ensures ∙ within-both _ _ _ (sized-at c) (sized-at c)
 
 points-requires : tie.Need-points-requires
 points-requires c κs = omega (arith, counted c, numbers-le _ _ (sized-at c) (sized-at c), long-le binary64 (all-passed (asked (c .before)) (c .if1 .left)))
 
-propagated-is : (c : tie.After-points) → c .points .result ≡ propagatedOf binary64 (c .before .before .before .before .before .before .args .self) (now (c .before .before .before .before .before .before .args .points))
-propagated-is c = c .points .ensures ∙ ap (λ (j : ℕ). front j (now (c .before .before .before .before .before .before .args .points)) (zeros 136)) (counted (c .before))
+propagated-is : (c : tie.After-points) → c .points .result ≡ propagatedOf binary64 (c .before .before .before .before .before .before .before .before .args .self) (now (c .before .before .before .before .before .before .before .before .args .points))
+propagated-is c = c .points .ensures ∙ ap (λ (j : ℕ). front j (now (c .before .before .before .before .before .before .before .before .args .points)) (zeros 136)) (counted (c .before))
 
-made-is : (c : tie.After-reconstruct-prediction) → c .reconstruct-prediction .result ≡ moments (run (predicting binary64 (c .before .before .before .before .before .before .before .before .before .before .before .before .before .before .before .args .self) (now (c .before .before .before .before .before .before .before .before .before .before .before .before .before .before .before .args .points))))
+made-is : (c : tie.After-reconstruct-prediction) → c .reconstruct-prediction .result ≡ moments (run (predicting binary64 (c .before .before .before .before .before .before .before .before .before .before .before .before .before .before .before .before .before .args .self) (now (c .before .before .before .before .before .before .before .before .before .before .before .before .before .before .before .before .before .args .points))))
 made-is c =
-    let s = c .before .before .before .before .before .before .before .before .before .before .before .before .before .before .before .args .self in
-    c .reconstruct-prediction .ensures ∙ ap₂ (λ (v : List Float) (w : Float). moments (predictOf binary64 (s .n) v w (s .«drawn_weights») (s .kinds) (s .q))) (propagated-is (c .before .before .before .before .before .before .before .before .before)) (c .before .before .before .before .before .before .before .center-weight .ensures)
+    let s = c .before .before .before .before .before .before .before .before .before .before .before .before .before .before .before .before .before .args .self in
+    c .reconstruct-prediction .ensures ∙ ap₂ (λ (v : List Float) (w : Float). moments (predictOf binary64 (s .sheet .n) v w (s .track .«drawn_weights») (s .sheet .kinds) (s .sheet .q))) (propagated-is (c .before .before .before .before .before .before .before .before .before)) (c .before .before .before .before .before .before .before .center-weight .ensures)
 
 returns-2 : tie.Need-returns-2
 returns-2 c =
     let d = c .before .before .before .before .before .before .before .before .before .before .before in
-    let s = c .before .before .before .before .before .before .before .before .before .before .before .before .before .before .before .before .args .self in
-    let v = now (c .before .before .before .before .before .before .before .before .before .before .before .before .before .before .before .before .args .points) in
+    let s = c .before .before .before .before .before .before .before .before .before .before .before .before .before .before .before .before .before .before .args .self in
+    let v = now (c .before .before .before .before .before .before .before .before .before .before .before .before .before .before .before .before .before .before .args .points) in
     closes-so (asked (d .before)) (d .if1 .left) (propagatedOf binary64 s v) false (predicting binary64 s v) (predicting-is binary64 s v (all-passed (asked (d .before)) (d .if1 .left) .fits)) (made-is (c .before))
     (c .close .ensures ∙ ap (λ (u : List Float). closedBy s u false (c .before .reconstruct-prediction .result)) (propagated-is (c .before .before .before .before .before .before .before .before .before .before)))
 

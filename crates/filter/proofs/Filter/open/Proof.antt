@@ -16,7 +16,7 @@ use Rattle.sigma.specs.Weights.{scaleOf, weightsOf}
 use Rattle.sigma.specs.declared.Drawn.{Drawn}
 use Rattle.filter.specs.declared.Filter.{Filter}
 use Rattle.filter.specs.Asked.{firstRefusal}
-use Rattle.filter.specs.Filters.{isCorrecting, seen, withDrawn}
+use Rattle.filter.specs.Filters.{filter, isCorrecting, seen, withDrawn}
 use Rattle.filter.specs.Calls.{opening, opened, draws, plan}
 use Rattle.filter.specs.Steps.{answered}
 use Rattle.filter.proofs.Sizes.{and-true, within-both}
@@ -29,11 +29,11 @@ use Rattle.filter.proofs.Filter.open.Tie as tie
 
 -- weights and points drawn afresh
 abbrev drawing : Filter → Plan (List Float)
-drawing s = drawPlan binary64 (s .n) (s .x) (s .p) (scaleOf binary64 (s .n) (s .params))
+drawing s = drawPlan binary64 (s .sheet .n) (s .track .x) (s .track .p) (scaleOf binary64 (s .sheet .n) (s .sheet .params))
 
-abbrev asked : (c : tie.After-first-refusal) → Told binary64 (c .before .before .before .before .before .args .self) (opening (c .before .before .before .before .before .args .stage) (now (c .before .before .before .before .before .args .out)))
+abbrev asked : (c : tie.After-first-refusal) → Told binary64 (c .before .before .before .before .before .before .before .args .self) (opening (c .before .before .before .before .before .before .before .args .stage) (now (c .before .before .before .before .before .before .before .args .out)))
 asked c =
-    let a = c .before .before .before .before .before .args in record {
+    let a = c .before .before .before .before .before .before .before .args in record {
       told = _;
       is =
           tested binary64 _ (c .first-refusal .ensures) (c .before .before .before .is-shut .ensures) (c .before .before .is-sized .ensures ∙ sym (and-true _))
@@ -46,51 +46,51 @@ returns : tie.Need-returns
 returns c = by-step (asked (c .before)) _ (refused-before (asked (c .before)) (c .if1 .taken)) refl refl
 
 -- there are 1 to 8 states, and the buffer has room for their points
-in-reach : (c : tie.Else1) → (c .before .before .before .before .before .before .args .self .n ≤ 8) × (pointNumbers (c .before .before .before .before .before .before .args .self .n) ≤ length (now (c .before .before .before .before .before .before .args .out)))
-in-reach c = let a = c .before .before .before .before .before .before .args in opening-in (a .self) (a .stage) (now (a .out)) binary64 (all-passed (asked (c .before)) (c .if1 .left))
+in-reach : (c : tie.Else1) → (c .before .before .before .before .before .before .before .before .args .self .sheet .n ≤ 8) × (pointNumbers (c .before .before .before .before .before .before .before .before .args .self .sheet .n) ≤ length (now (c .before .before .before .before .before .before .before .before .args .out)))
+in-reach c = let a = c .before .before .before .before .before .before .before .before .args in opening-in (a .self) (a .stage) (now (a .out)) binary64 (all-passed (asked (c .before)) (c .if1 .left))
 
 -- whether the current points serve
-current : (c : tie.After-both) → c .both .result ≡ (isCorrecting (c .before .before .before .before .before .before .before .before .args .stage) && not (c .before .before .before .before .before .before .before .before .args .self .stale))
-current c = c .both .ensures ∙ ap (λ (b : Bool). b && not (c .before .before .before .before .before .before .before .before .args .self .stale)) (c .before .is-correcting .ensures)
+current : (c : tie.After-both) → c .both .result ≡ (isCorrecting (c .before .before .before .before .before .before .before .before .before .before .args .stage) && not (c .before .before .before .before .before .before .before .before .before .before .args .self .track .stale))
+current c = c .both .ensures ∙ ap (λ (b : Bool). b && not (c .before .before .before .before .before .before .before .before .before .before .args .self .track .stale)) (c .before .is-correcting .ensures)
 
 returns-2 : tie.Need-returns-2
 returns-2 c =
     let d = c .before .before .before .before .before .before .before .before .before in
-    let a = c .before .before .before .before .before .before .before .before .before .before .before .before .before .before .before .args in
+    let a = c .before .before .before .before .before .before .before .before .before .before .before .before .before .before .before .before .before .args in
     by-step (asked (d .before)) _
     (finished (asked (d .before)) (d .if1 .left) (opening-current binary64 (a .self) (now (a .out)) (a .stage) (sym (current (c .before .before .before .before .before .before .before)) ∙ c .before .before .before .before .before .before .if2 .taken)))
-    (c .before .before .opened .ensures .0 ∙ ap accepted-as (set-opened (a .self) (a .stage) _ (c .before .before .before .before .before .before .before .before .before .before .before .before .before .before .before .pre)))
+    (c .before .before .opened .ensures .0 ∙ ap accepted-as (set-opened (a .self) (a .stage) _ (c .before .before .before .before .before .before .before .before .before .before .before .before .before .before .before .before .before .pre)))
     (c .before .before .opened .ensures .1)
 
 -- the draw, and the plan that it follows
-drawn-is : (c : tie.After-generate-sigma-points) → c .generate-sigma-points .result ≡ drawn (run (drawing (c .before .before .before .before .before .before .before .before .before .before .before .before .before .before .before .before .args .self)))
-drawn-is c = let s = c .before .before .before .before .before .before .before .before .before .before .before .before .before .before .before .before .args .self in c .generate-sigma-points .ensures ∙ ap (λ (v : Float). drawn (drawOf binary64 (s .n) (s .x) (s .p) v)) (c .before .before .before .scale .ensures)
+drawn-is : (c : tie.After-generate-sigma-points) → c .generate-sigma-points .result ≡ drawn (run (drawing (c .before .before .before .before .before .before .before .before .before .before .before .before .before .before .before .before .before .before .args .self)))
+drawn-is c = let s = c .before .before .before .before .before .before .before .before .before .before .before .before .before .before .before .before .before .before .args .self in c .generate-sigma-points .ensures ∙ ap (λ (v : Float). drawn (drawOf binary64 (s .sheet .n) (s .track .x) (s .track .p) v)) (c .before .before .before .scale .ensures)
 
-draws-is : (c : tie.Else2) → plan binary64 (seen (c .before .before .before .before .before .before .before .before .before .args .self)) (opening (c .before .before .before .before .before .before .before .before .before .args .stage) (now (c .before .before .before .before .before .before .before .before .before .args .out))) ≡ draws binary64 (toStage (c .before .before .before .before .before .before .before .before .before .args .stage)) (c .before .before .before .before .before .before .before .before .before .args .self)
-draws-is c = let a = c .before .before .before .before .before .before .before .before .before .args in opening-drawn binary64 (a .self) (now (a .out)) (a .stage) (sym (current (c .before)) ∙ c .if2 .left)
+draws-is : (c : tie.Else2) → plan binary64 (seen (c .before .before .before .before .before .before .before .before .before .before .before .args .self)) (opening (c .before .before .before .before .before .before .before .before .before .before .before .args .stage) (now (c .before .before .before .before .before .before .before .before .before .before .before .args .out))) ≡ draws binary64 (toStage (c .before .before .before .before .before .before .before .before .before .before .before .args .stage)) (c .before .before .before .before .before .before .before .before .before .before .before .args .self)
+draws-is c = let a = c .before .before .before .before .before .before .before .before .before .before .before .args in opening-drawn binary64 (a .self) (now (a .out)) (a .stage) (sym (current (c .before)) ∙ c .if2 .left)
 
 returns-3 : tie.Need-returns-3
 returns-3 c =
     let d = c .before .before .before .before .before .before .before .before .before .before .before .before in
-    let s = c .before .before .before .before .before .before .before .before .before .before .before .before .before .before .before .before .before .before .args .self in
+    let s = c .before .before .before .before .before .before .before .before .before .before .before .before .before .before .before .before .before .before .before .before .args .self in
     let r = ap (λ (x : Drawn). x .refusal) (drawn-is (c .before .before)) in
     by-step (asked (d .before)) _
-    (stopped (asked (d .before)) (d .if1 .left) (opened (toStage (c .before .before .before .before .before .before .before .before .before .before .before .before .before .before .before .before .before .before .args .stage)) (s .n) (weightsOf binary64 (s .n) (s .params))) (drawing s) (draws-is (c .before .before .before .before .before .before .before .before .before)) (λ z. c .if3 .taken (r ∙ z)))
+    (stopped (asked (d .before)) (d .if1 .left) (opened (toStage (c .before .before .before .before .before .before .before .before .before .before .before .before .before .before .before .before .before .before .before .before .args .stage)) (s .sheet .n) (weightsOf binary64 (s .sheet .n) (s .sheet .params))) (drawing s) (draws-is (c .before .before .before .before .before .before .before .before .before)) (λ z. c .if3 .taken (r ∙ z)))
     (ap (λ (x : ℕ). answered (stayed s x)) r) refl
 
 returns-4 : tie.Need-returns-4
 returns-4 c =
     let d = c .before .before .before .before .before .before .before .before .before .before .before .before .before .before .before .before .before .before in
-    let a = c .before .before .before .before .before .before .before .before .before .before .before .before .before .before .before .before .before .before .before .before .before .before .before .before .args in
+    let a = c .before .before .before .before .before .before .before .before .before .before .before .before .before .before .before .before .before .before .before .before .before .before .before .before .before .before .args in
     let s = a .self in
     let e = drawn-is (c .before .before .before .before .before .before .before .before) in
     let points = ap (λ (x : Drawn). x .points) e in
     by-step (asked (d .before)) _
-    (made (asked (d .before)) (d .if1 .left) (opened (toStage (a .stage)) (s .n) (weightsOf binary64 (s .n) (s .params))) (drawing s) (draws-is (c .before .before .before .before .before .before .before .before .before .before .before .before .before .before .before)) (zeros 136) (sym (ap (λ (x : Drawn). x .refusal) e) ∙ c .before .before .before .before .before .before .if3 .left))
+    (made (asked (d .before)) (d .if1 .left) (opened (toStage (a .stage)) (s .sheet .n) (weightsOf binary64 (s .sheet .n) (s .sheet .params))) (drawing s) (draws-is (c .before .before .before .before .before .before .before .before .before .before .before .before .before .before .before)) (zeros 136) (sym (ap (λ (x : Drawn). x .refusal) e) ∙ c .before .before .before .before .before .before .if3 .left))
     (c .before .before .opened2 .ensures .0
-    ∙ ap₂ (λ (w v : List Float). accepted-as (withDrawn s (a .stage) (record { weights = w; points = v }))) (c .before .before .before .before .before .weights2 .ensures) points
-    ∙ ap accepted-as (set-opened s (a .stage) _ (c .before .before .before .before .before .before .before .before .before .before .before .before .before .before .before .before .before .before .before .before .before .before .before .before .pre)))
-    (c .before .before .opened2 .ensures .1 ∙ ap (λ (v : List Float). over (take (pointNumbers (s .n)) v) (now (a .out))) points)
+    ∙ ap₂ (λ (w v : List Float). accepted-as (filter (s .sheet) (withDrawn (s .track) (a .stage) (record { weights = w; points = v })))) (c .before .before .before .before .before .weights2 .ensures) points
+    ∙ ap accepted-as (set-opened s (a .stage) _ (c .before .before .before .before .before .before .before .before .before .before .before .before .before .before .before .before .before .before .before .before .before .before .before .before .before .before .pre)))
+    (c .before .before .opened2 .ensures .1 ∙ ap (λ (v : List Float). over (take (pointNumbers (s .sheet .n)) v) (now (a .out))) points)
 
 pub open-spec : {M : Type 1} → statement M
 open-spec =

@@ -7,6 +7,8 @@ use denote.Ref.{now}
 use Rattle.floats.specs.Fronts.{front}
 use Rattle.floats.proofs.Fronts.{front-over}
 use Rattle.sigma.specs.Draw.{pointNumbers}
+use Rattle.filter.specs.declared.Track.{Track}
+use Rattle.filter.specs.Filters.{filter}
 use Rattle.filter.proofs.Sizes.{within-both, numbers-le}
 use Rattle.filter.proofs.Taken.{accepted-as}
 use Rattle.filter.proofs.Filter.opened.Statement.{statement}
@@ -23,13 +25,13 @@ copy-front-requires c κs =
 
 returns : tie.Need-returns
 returns c =
-    let d = c .before .before .before in
+    let d = c .before .before .before .before .before in
     let k = d .before .before .before .before in
     let s = k .before .before in
     let h = s .pre .0 in (
-      ap accepted-as (c .with-drawn .ensures),
+      ap (λ (t : Track). accepted-as (filter (s .args .self .sheet) t)) (c .with-drawn .ensures),
       d .copy-front .ensures ∙ ap (λ (j : ℕ). front j (s .args .d .points) (now (s .args .out))) (k .point-numbers .ensures ∙ within-both _ _ _ h h)
-          ∙ front-over (pointNumbers (s .args .self .n)) _ _ (omega (arith, slice-aggregate-copy-front (d .before .before), numbers-le _ _ h h)),
+          ∙ front-over (pointNumbers (s .args .self .sheet .n)) _ _ (omega (arith, slice-aggregate-copy-front (d .before .before), numbers-le _ _ h h)),
     )
 
 pub opened-spec : {M : Type 1} → statement M

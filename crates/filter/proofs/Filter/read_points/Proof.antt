@@ -22,7 +22,7 @@ read-requires c κs = λ h. omega (arith, slice-aggregate-read (c .before), numb
 returns : tie.Need-returns
 returns c =
     let s = c .before .before .before .before .before .before .before .before in
-    has-read binary64 (s .args .self) (reading (read-points (now (s .args .out)))) (pointNumbers (s .args .self .n)) (s .args .self .stale) (now (s .args .out)) (s .args .self .points) (cond (s .args .self .stale) [] (s .args .self .points)) refl refl (λ z. rw z) (λ h. c .before .before .before .before .before .before .point-numbers .ensures ∙ within-both _ _ _ h h) (c .before .before .read .ensures)
+    has-read binary64 (s .args .self) (reading (read-points (now (s .args .out)))) (pointNumbers (s .args .self .sheet .n)) (s .args .self .track .stale) (now (s .args .out)) (s .args .self .track .points) (cond (s .args .self .track .stale) [] (s .args .self .track .points)) refl refl (λ z. rw z) (λ h. c .before .before .before .before .before .before .point-numbers .ensures ∙ within-both _ _ _ h h) (c .before .before .read .ensures)
 
 pub read-points-spec : {M : Type 1} → statement M
 read-points-spec = tie.close (tie.spec (λ c κs. search needs) slice-aggregate-read read-requires (λ c. search needs) returns)

@@ -21,7 +21,7 @@ read-requires c κs = λ h. omega (arith, slice-aggregate-read (c .before), squa
 returns : tie.Need-returns
 returns c =
     let s = c .before .before .before .before .before .before .before .before in
-    has-read binary64 (s .args .self) (reading (read-q (now (s .args .out)))) (s .args .self .n * s .args .self .n) false (now (s .args .out)) (s .args .self .q) (s .args .self .q) refl refl (λ z. refl) (λ h. c .before .before .before .before .before .before .square .ensures ∙ within-8 _ _ h) (c .before .before .read .ensures)
+    has-read binary64 (s .args .self) (reading (read-q (now (s .args .out)))) (s .args .self .sheet .n * s .args .self .sheet .n) false (now (s .args .out)) (s .args .self .sheet .q) (s .args .self .sheet .q) refl refl (λ z. refl) (λ h. c .before .before .before .before .before .before .square .ensures ∙ within-8 _ _ h) (c .before .before .read .ensures)
 
 pub read-q-spec : {M : Type 1} → statement M
 read-q-spec = tie.close (tie.spec (λ c κs. search needs) slice-aggregate-read read-requires (λ c. search needs) returns)

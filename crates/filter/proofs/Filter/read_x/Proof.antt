@@ -19,7 +19,7 @@ read-requires c κs = λ h. omega (arith, slice-aggregate-read (c .before))
 returns : tie.Need-returns
 returns c =
     let s = c .before .before .before .before .before .before .before in
-    has-read binary64 (s .args .self) (reading (read-x (now (s .args .out)))) (s .args .self .n) false (now (s .args .out)) (s .args .self .x) (s .args .self .x) refl refl (λ z. refl) (λ h. refl) (c .before .before .read .ensures)
+    has-read binary64 (s .args .self) (reading (read-x (now (s .args .out)))) (s .args .self .sheet .n) false (now (s .args .out)) (s .args .self .track .x) (s .args .self .track .x) refl refl (λ z. refl) (λ h. refl) (c .before .before .read .ensures)
 
 pub read-x-spec : {M : Type 1} → statement M
 read-x-spec = tie.close (tie.spec slice-aggregate-read read-requires (λ c. search needs) returns)

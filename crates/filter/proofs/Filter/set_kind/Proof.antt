@@ -7,7 +7,7 @@ use native.Mathlib.Omega.{arith}
 use lib.Dec.{eqb, ltb}
 use lib.Ieee.{binary64}
 use Rattle.filter.specs.Asked.{inRange}
-use Rattle.filter.specs.Calls.{setting, set-kind}
+use Rattle.filter.specs.Calls.{writing, set-kind}
 use Rattle.filter.specs.Steps.{answered}
 use Rattle.filter.proofs.Sizes.{and-true, and-left, and-right, range-ge, range-le, state-in}
 use Rattle.filter.proofs.KindTests.{clear-finite, clear-passes}
@@ -16,15 +16,15 @@ use Rattle.filter.proofs.Taken.{Told, turned-away, all-passed, finished
 use Rattle.filter.proofs.Filter.set_kind.Statement.{statement}
 use Rattle.filter.proofs.Filter.set_kind.Tie as tie
 
-abbrev asked : (c : tie.After-first-refusal) → Told binary64 (c .before .before .before .before .before .args .self) (setting (set-kind (c .before .before .before .before .before .args .i) (c .before .before .before .before .before .args .kind)))
+abbrev asked : (c : tie.After-first-refusal) → Told binary64 (c .before .before .before .before .before .before .before .args .self) (writing (set-kind (c .before .before .before .before .before .before .before .args .i) (c .before .before .before .before .before .before .before .args .kind)))
 asked c =
     let s = c .before .before .before in
-    let a = s .before .before .args in
+    let a = s .before .before .before .before .args in
     let k = c .before .kind-refusal .ensures in record {
       told = _;
       is =
           tested binary64 _ (c .first-refusal .ensures) (s .before .is-shut .ensures)
-          (c .before .before .both .ensures ∙ ap (λ (b : Bool). b && ltb (a .i) (a .self .n)) (s .is-sized .ensures) ∙ state-in (a .i) (a .self .n))
+          (c .before .before .both .ensures ∙ ap (λ (b : Bool). b && ltb (a .i) (a .self .sheet .n)) (s .is-sized .ensures) ∙ state-in (a .i) (a .self .sheet .n))
           (λ h. refl) refl
           (λ h. ap (λ (r : ℕ). not (eqb r 5)) k ∙ clear-finite binary64 (a .kind))
           refl
@@ -32,13 +32,13 @@ asked c =
     }
 
 -- the index is a state's
-in-states : (c : tie.Else1) → c .before .before .before .before .before .before .args .i < 8
+in-states : (c : tie.Else1) → c .before .before .before .before .before .before .before .before .args .i < 8
 in-states c =
-    let a = c .before .before .before .before .before .before .args in
+    let a = c .before .before .before .before .before .before .before .before .args in
     let p = all-passed (asked (c .before)) (c .if1 .left) .sized in
-    let n = and-left (inRange 1 8 (a .self .n)) _ p in
-    let i = and-left (inRange 0 (a .self .n - 1) (a .i)) true (and-right (inRange 1 8 (a .self .n)) _ p) in
-    omega (arith, range-ge 1 8 (a .self .n) n, range-le 1 8 (a .self .n) n, range-le 0 (a .self .n - 1) (a .i) i)
+    let n = and-left (inRange 1 8 (a .self .sheet .n)) _ p in
+    let i = and-left (inRange 0 (a .self .sheet .n - 1) (a .i)) true (and-right (inRange 1 8 (a .self .sheet .n)) _ p) in
+    omega (arith, range-ge 1 8 (a .self .sheet .n) n, range-le 1 8 (a .self .sheet .n) n, range-le 0 (a .self .sheet .n - 1) (a .i) i)
 
 pub set-kind-spec : {M : Type 1} → statement M
 set-kind-spec =

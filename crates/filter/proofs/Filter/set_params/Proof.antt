@@ -3,7 +3,7 @@ use mathlib.Core.Path.{refl, sym, ap, _∙_}
 use borrow.Author.Needs.{needs}
 use mathlib.Core.List.{[]}
 use lib.Ieee.{binary64}
-use Rattle.filter.specs.Calls.{setting, set-params}
+use Rattle.filter.specs.Calls.{writing, set-params}
 use Rattle.filter.specs.Steps.{answered}
 use Rattle.filter.proofs.Sizes.{and-true, passing-8}
 use Rattle.filter.proofs.Order.{tested}
@@ -12,7 +12,7 @@ use Rattle.filter.proofs.Taken.{Told, turned-away, finished}
 use Rattle.filter.proofs.Filter.set_params.Statement.{statement}
 use Rattle.filter.proofs.Filter.set_params.Tie as tie
 
-abbrev asked : (c : tie.After-first-refusal) → Told binary64 (c .before .before .before .before .before .args .self) (setting (set-params (c .before .before .before .before .before .args .params)))
+abbrev asked : (c : tie.After-first-refusal) → Told binary64 (c .before .before .before .before .before .before .before .args .self) (writing (set-params (c .before .before .before .before .before .before .before .args .params)))
 asked c =
     let s = c .before .before .before in record {
       told = _;

@@ -4,14 +4,14 @@ use borrow.Author.Needs.{needs}
 use native.Mathlib.Omega.{arith}
 use denote.Ref.{now}
 use lib.Ieee.{binary64}
-use Rattle.filter.specs.Filters.{x-set}
+use Rattle.filter.specs.Filters.{x-set, sets}
 use Rattle.filter.specs.Calls.{setting, set-x}
 use Rattle.filter.proofs.Lines.{sized-le, long-le, slice-first}
 use Rattle.filter.proofs.Taken.{Told, turned-away, all-passed, has-set}
 use Rattle.filter.proofs.Filter.set_x.Statement.{statement}
 use Rattle.filter.proofs.Filter.set_x.Tie as tie
 
-abbrev asked : (c : tie.After-slice-refusal) → Told binary64 (c .before .before .before .args .self) (setting (set-x (now (c .before .before .before .args .src))))
+abbrev asked : (c : tie.After-slice-refusal) → Told binary64 (c .before .before .before .before .before .args .self) (setting (set-x (now (c .before .before .before .before .before .args .src))))
 asked c = record { told = _; is = slice-first binary64 _ (c .slice-refusal .ensures) (c .before .is-shut .ensures) (λ h. refl) }
 
 vector-requires : tie.Need-vector-requires
@@ -25,4 +25,4 @@ set-x-spec =
     (λ c κs. search needs)
     (λ c. turned-away (asked (c .before)) (c .if1 .taken))
     vector-requires
-    (λ c. has-set (asked (c .before .before)) (c .before .if1 .left) x-set (c .vector .ensures) refl))
+    (λ c. has-set (asked (c .before .before)) (c .before .if1 .left) (λ v. sets (x-set v)) (c .vector .ensures) refl))

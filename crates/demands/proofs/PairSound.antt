@@ -1,0 +1,134 @@
+-- Each side of a pair that the demands speak of is a filter that they speak of: what is proved of filters holds of the sides. So every number handed out is finite. Assumes nothing.
+use Prim.Native.Nat.{ℕ, _*_}
+use native.Mathlib.Omega.{arith}
+use mathlib.Core.Path.{_≡_, refl, sym, ap, subst}
+use mathlib.Core.Bool.{Bool, true, false, cond}
+use mathlib.Core.List.{List, [], _∷_, _++_}
+use lib.Dec.{leb}
+use lib.ListN.{length, take}
+use lib.Ieee.{Float, Format}
+use Rattle.floats.specs.Refusal.{STAGE, Outcome, refused, accepted, refusal, or}
+use Rattle.floats.specs.Numbers.{plusZero, allFinite}
+use Rattle.floats.proofs.Refusals.{number-above}
+use Rattle.sigma.specs.declared.Params.{Params}
+use Rattle.filter.specs.declared.Filter.{Filter}
+use Rattle.filter.specs.Asked.{by-params, inRange, fit, every}
+use Rattle.filter.specs.Filters.{filter}
+use Rattle.filter.specs.Calls.{Call}
+use Rattle.filter.specs.Steps.{stepped, step}
+use Rattle.filter.specs.New.{empty, from, sheetFrom, trackFrom, newOf, newAnswer}
+use Rattle.pairs.specs.declared.Pair.{Pair}
+use Rattle.pairs.specs.declared.Side.{Side}
+use Rattle.pairs.specs.declared.Side.the-variants.{First, Second}
+use Rattle.pairs.specs.Pairs.{solo, pairStep}
+use Rattle.pairs.specs.NewPair.{emptyPair, newPairAsks, newPairOf, newPairAnswer}
+use Rattle.demands.specs.Runs.{tells, Alike}
+use Rattle.demands.specs.Sound.{Sound, Reached, made, further, Yielded, fresh-made, stepped-on, put-at-will, handedOut, Each, end, and}
+use Rattle.demands.specs.PairRuns.{SideCall, on, pairTells, pairTold, barred, AlikePairs, reaches}
+use Rattle.demands.specs.PairSound.{PairReached, pair-new, pair-further, PairYielded, pair-made, pair-stepped, pair-at-will}
+use Rattle.demands.proofs.Passed.{by-cases}
+use Rattle.demands.proofs.Arrays.{all-both, all-parts, filled-all}
+use Rattle.demands.proofs.Sound.{sound, tells-finite}
+use Rattle.demands.proofs.PairSteps.{on-is, side-barred, reached, unreached}
+
+module _ (f : Format) where
+  -- ---- New
+
+  -- the empty filter is what New gives for no states
+  empty-new : empty ≡ newAnswer f 0 [] [] [] (record { alpha = plusZero; beta = plusZero; kappa = plusZero }) .filter
+  unfolding newOf inRange
+  empty-new = refl
+
+  module _ (n : ℕ) (q : List Float) (params : Params) where
+    -- a New that has passed
+    new-made : (x p : List Float) → inRange 1 8 n ≡ true → leb n (length x) ≡ true → leb (n * n) (length p) ≡ true → leb (n * n) (length q) ≡ true
+        → allFinite (take n x ++ take (n * n) p) ≡ true → allFinite (take (n * n) q ++ (params .alpha ∷ params .beta ∷ params .kappa ∷ [])) ≡ true → every (fit f) (by-params n params ∷ []) ≡ true
+        → newOf f n x p q params ≡ accepted (filter (sheetFrom n q params) (trackFrom n (from x p)))
+    unfolding newOf
+    new-made x p s a b c i k m = let u = all-both (take n x ++ take (n * n) p) _ i k in rw (s, a, b, c, u, m)
+
+    module _ (x₁ p₁ x₂ p₂ : List Float) where
+      abbrev Sides : Outcome Pair → Type 0
+      Sides (refused r) = Unit {0}
+      Sides (accepted p) = (solo p First ≡ newAnswer f n x₁ p₁ q params .filter) × (solo p Second ≡ newAnswer f n x₂ p₂ q params .filter)
+
+      new-made-sides : Sides (newPairOf f n x₁ p₁ x₂ p₂ q params)
+      unfolding newPairOf
+      new-made-sides =
+          by-cases Sides (λ r. tt) f (newPairAsks f n x₁ p₁ x₂ p₂ q params) _ (λ h.
+          let a = all-parts (take n x₁ ++ take (n * n) p₁) _ (h .inputs) in
+          let b = all-parts (take n x₂ ++ take (n * n) p₂) _ (a .1) in (
+            ap (or empty) (sym (new-made x₁ p₁ (h .sizes .0) (h .lent .0) (h .lent .1 .0) (h .lent .1 .1 .1 .1 .0) (a .0) (b .1) (h .params))),
+            ap (or empty) (sym (new-made x₂ p₂ (h .sizes .0) (h .lent .1 .1 .0) (h .lent .1 .1 .1 .0) (h .lent .1 .1 .1 .1 .0) (b .0) (b .1) (h .params))),
+          ))
+
+      -- EACH SIDE OF A NEW PAIR is what New makes of its own start; of a refused one, the empty filter
+      pub new-sides : newPairAnswer f n x₁ p₁ x₂ p₂ q params .refusal ≡ 0
+          → (solo (newPairAnswer f n x₁ p₁ x₂ p₂ q params .pair) First ≡ newAnswer f n x₁ p₁ q params .filter) × (solo (newPairAnswer f n x₁ p₁ x₂ p₂ q params .pair) Second ≡ newAnswer f n x₂ p₂ q params .filter)
+      new-sides = go (newPairOf f n x₁ p₁ x₂ p₂ q params) new-made-sides
+        where
+          go : (o : Outcome Pair) → Sides o → refusal o ≡ 0 → (solo (or (emptyPair) o) First ≡ newAnswer f n x₁ p₁ q params .filter) × (solo (or (emptyPair) o) Second ≡ newAnswer f n x₂ p₂ q params .filter)
+          go (refused r) s e = absurd (omega (arith, number-above r))
+          go (accepted p) s e = s
+
+      pub new-empty : (newPairAnswer f n x₁ p₁ x₂ p₂ q params .refusal ≡ 0 → ⊥) → newPairAnswer f n x₁ p₁ x₂ p₂ q params .pair ≡ emptyPair
+      new-empty = go (newPairOf f n x₁ p₁ x₂ p₂ q params)
+        where
+          go : (o : Outcome Pair) → (refusal o ≡ 0 → ⊥) → or (emptyPair) o ≡ emptyPair
+          go (refused r) h = refl
+          go (accepted p) h = absurd (h refl)
+
+      -- so what holds of whatever New gives holds of each
+      new-holds : (P : Filter → Type 0) → ((m : ℕ) (x p r : List Float) (v : Params) → P (newAnswer f m x p r v .filter)) → (w : Side) → P (solo (newPairAnswer f n x₁ p₁ x₂ p₂ q params .pair) w)
+      new-holds P h = go (newPairOf f n x₁ p₁ x₂ p₂ q params) new-made-sides
+        where
+          go : (o : Outcome Pair) → Sides o → (w : Side) → P (solo (or (emptyPair) o) w)
+          go (refused r) s First = subst P (sym empty-new) (h 0 [] [] [] _)
+          go (refused r) s Second = subst P (sym empty-new) (h 0 [] [] [] _)
+          go (accepted p) s First = subst P (sym (s .0)) (h n x₁ p₁ q params)
+          go (accepted p) s Second = subst P (sym (s .1)) (h n x₂ p₂ q params)
+
+  -- ---- EACH SIDE IS A FILTER THAT THE DEMANDS SPEAK OF
+
+  -- what solo calls keep, calls on a pair keep of each side
+  side-holds : (P : Filter → Type 0) → ((s : Filter) → P s → (c : Call) → P (step f s c .filter)) → (p : Pair) (v w : Side) (c : Call) → P (solo p w) → P (solo (pairStep f p v c .pair) w)
+  side-holds P h p v w c y = go (reaches v c w) refl
+    where
+      mine : (b : Bool) → P (cond b (stepped (solo p w) (refused STAGE)) (step f (solo p w) c) .filter)
+      mine true = y
+      mine false = h (solo p w) y c
+
+      go : (r : Bool) → reaches v c w ≡ r → P (solo (pairStep f p v c .pair) w)
+      go true h = rw (reached f p v c w h, side-barred f p w c) (mine (barred p w c))
+      go false h = rw (unreached f p v c w h) y
+
+  alike-side : {p : Pair} (q : Pair) → AlikePairs p q → (w : Side) → Alike (solo p w) (solo q w)
+  alike-side q a First = record { sheet = a .sheet; track = a .first }
+  alike-side q a Second = record { sheet = a .sheet; track = a .second }
+
+  pub side-yielded : {p : Pair} → PairYielded f p → (w : Side) → Yielded f (solo p w)
+  side-yielded (pair-made n x₁ p₁ x₂ p₂ q params) w = new-holds n q params x₁ p₁ x₂ p₂ (Yielded f) (λ m x p r v. fresh-made m x p r v) w
+  side-yielded (pair-stepped {p = p} y v c) w = side-holds (Yielded f) (λ s z d. stepped-on z d) p v w c (side-yielded y w)
+  side-yielded (pair-at-will {p = p} q y a) w = put-at-will (solo q w) (side-yielded y w) (alike-side q a w)
+
+  pub side-reached : {p : Pair} → PairReached f p → (w : Side) → Reached f (solo p w)
+  side-reached (pair-new n x₁ p₁ x₂ p₂ q params) w = new-holds n q params x₁ p₁ x₂ p₂ (Reached f) (λ m x p r v. made m x p r v) w
+  side-reached (pair-further {p = p} y v c) w = side-holds (Reached f) (λ s z d. further z d) p v w c (side-reached y w)
+
+  -- ---- EVERY NUMBER HANDED OUT IS FINITE
+
+  turned-finite : (s : Filter) → Sound f s → allFinite (handedOut (tells (stepped s (refused STAGE)))) ≡ true
+  unfolding tells
+  turned-finite s o = all-both (s .track .x) (s .track .p) (filled-all (o .x)) (filled-all (o .p))
+
+  side-finite : (p : Pair) (w : Side) (c : Call) → Sound f (solo p w) → allFinite (handedOut (tells (on w (pairStep f p w c)))) ≡ true
+  side-finite p w c o = rw (on-is f p w c, side-barred f p w c) (go (barred p w c))
+    where
+      go : (b : Bool) → allFinite (handedOut (tells (cond b (stepped (solo p w) (refused STAGE)) (step f (solo p w) c)))) ≡ true
+      go true = turned-finite (solo p w) o
+      go false = tells-finite f (solo p w) c o
+
+  pub pair-finite : (p : Pair) → PairYielded f p → (cs : List SideCall) → Each (λ t. allFinite (handedOut (t .told)) ≡ true) (pairTold f p cs)
+  unfolding pairTold pairTells
+  pair-finite p y [] = end
+  pair-finite p y (t ∷ ts) = and (side-finite p (t .side) (t .call) (sound f (side-yielded y (t .side)))) (pair-finite _ (pair-stepped y (t .side) (t .call)) ts)

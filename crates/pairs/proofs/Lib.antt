@@ -1,0 +1,2 @@
+-- `Calls`: one step of a pair, as the code of a call takes it.
+pub mod Calls

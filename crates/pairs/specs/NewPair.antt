@@ -1,0 +1,25 @@
+-- New of a pair: n, x and P of the first, x and P of the second, Q and the parameters, asked for in that order; refused, both are empty. Definitions only.
+use Prim.Native.Nat.{ℕ}
+use mathlib.Core.List.{List, [], _∷_}
+use lib.Ieee.{Float, Format}
+use Rattle.floats.specs.Refusal.{Outcome, accepted, refusal, or}
+use Rattle.sigma.specs.declared.Params.{Params}
+use Rattle.filter.specs.Asked.{Asks, guarded}
+use Rattle.filter.specs.New.{emptySheet, emptyTrack, from, newAsks, sheetFrom, trackFrom}
+use Rattle.pairs.specs.declared.Pair.{Pair}
+use Rattle.pairs.specs.declared.PairAnswer.{PairAnswer}
+use Rattle.pairs.specs.Pairs.{pair}
+
+abbrev pub emptyPair : Pair
+emptyPair = pair emptySheet emptyTrack emptyTrack
+
+module _ (f : Format) (n : ℕ) (x₁ p₁ x₂ p₂ q : List Float) (params : Params) where
+  abbrev pub newPairAsks : Asks
+  newPairAsks = newAsks n (from x₁ p₁ ∷ from x₂ p₂ ∷ []) q params
+
+  unfoldable pub newPairOf : Outcome Pair
+  unfolding guarded
+  newPairOf = guarded f newPairAsks (accepted (pair (sheetFrom n q params) (trackFrom n (from x₁ p₁)) (trackFrom n (from x₂ p₂))))
+
+  abbrev pub newPairAnswer : PairAnswer
+  newPairAnswer = record { pair = or emptyPair newPairOf; refusal = refusal newPairOf }

@@ -1,0 +1,29 @@
+// Two filters of one size on one settings sheet.
+use filter::Sheet;
+use filter::Track;
+
+pub mod closes;
+pub mod new;
+pub mod opens;
+pub mod readings;
+pub mod setters;
+mod sides;
+
+// One sheet and two tracks. A track with the sheet is a filter, so that a call on a side is that filter's own call.
+pub struct Pair {
+    pub sheet: Sheet,
+    pub first: Track,
+    pub second: Track,
+}
+
+// The side that a call is on.
+pub enum Side {
+    First,
+    Second,
+}
+
+// The next pair with the answer number.
+pub struct PairAnswer {
+    pub pair: Pair,
+    pub refusal: u8,
+}
