@@ -1,7 +1,7 @@
 //! What scripts should meet: every number that a call can give, every stage and step that can stop it, every setting on stale points and on points in use, every size.
 
 use crate::filter::Open;
-use crate::script::{Table, IN_USE, STALE};
+use crate::script::{Table, IN_USE, SETTERS, STALE};
 
 /// The numbers that each call can give in a script. (Opening never gives 6; on the empty filter abandon and closes give 3.)
 pub const NUMBERS: [(&str, &[u8]); 22] = [
@@ -54,15 +54,12 @@ const CORRECTION: [(u8, &str); 13] = [
     (9, "P"),
 ];
 
-/// The setters, each accepted and refused on stale points and on points in use.
-pub const SETTERS: [&str; 5] = ["setx", "setp", "setq", "setpar", "setkind"];
-
 /// The closes of a correction, each met with every n and m.
 pub const CORRECTIONS: [(&str, &str); 2] = [("closec", "correction"), ("closef", "flat correction")];
 
 /// How often a call gave such a number with such words beside it.
 fn sum(table: &Table, call: &str, fits: impl Fn(u8, &str) -> bool) -> u64 {
-    table.iter().filter(|((c, number, more), _)| *c == call && fits(*number, more)).map(|(_, count)| count).sum()
+    table.iter().filter(|((c, number, more), _)| c == call && fits(*number, more)).map(|(_, count)| count).sum()
 }
 
 /// How often a call gave a number, whatever the step.

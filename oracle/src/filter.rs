@@ -36,7 +36,7 @@ impl From<Stop> for Trouble {
 }
 
 /// Refusal `number` where this holds; the callers keep the order 3, 1, 2, 4, 5, 10, 6.
-fn refuse_if(holds: bool, number: u8) -> Result<(), Stop> {
+pub(crate) fn refuse_if(holds: bool, number: u8) -> Result<(), Stop> {
     if holds {
         Err(Stop { number, step: "" })
     } else {
@@ -102,16 +102,12 @@ impl Filter {
     }
 
     pub fn new(n: u64, x: &[f64], p: &[f64], q: &[f64], par: Params) -> Result<Filter, Trouble> {
-        let n = states(n)?;
-        refuse_if(x.len() < n || p.len() < n * n || q.len() < n * n, 2)?;
-        let (x, p, q) = (&x[..n], &p[..n * n], &q[..n * n]);
-        refuse_if(!(all_finite(x) && all_finite(p) && all_finite(q) && finite_params(par)), 5)?;
-        refuse_if(!Weights::of(n, par).pass(), 6)?;
+        let n = newable(n, &[Start { x, p }], q, par)?;
         Ok(Filter {
             n,
-            x: x.to_vec(),
-            p: p.to_vec(),
-            q: q.to_vec(),
+            x: x[..n].to_vec(),
+            p: p[..n * n].to_vec(),
+            q: q[..n * n].to_vec(),
             par,
             kinds: vec![Kind::Plain; n],
             points: vec![0.0; list_length(n)],
@@ -372,6 +368,22 @@ impl Filter {
         self.sized()?;
         Ok(self.stale)
     }
+}
+
+/// What New is lent for one filter.
+pub struct Start<'a> {
+    pub x: &'a [f64],
+    pub p: &'a [f64],
+}
+
+/// The checks of New, for a filter or for both of a pair (request A4): 1, 2, 5, 6.
+pub(crate) fn newable(n: u64, starts: &[Start], q: &[f64], par: Params) -> Result<usize, Stop> {
+    let n = states(n)?;
+    refuse_if(starts.iter().any(|start| start.x.len() < n || start.p.len() < n * n) || q.len() < n * n, 2)?;
+    let finite = starts.iter().all(|start| all_finite(&start.x[..n]) && all_finite(&start.p[..n * n]));
+    refuse_if(!(finite && all_finite(&q[..n * n]) && finite_params(par)), 5)?;
+    refuse_if(!Weights::of(n, par).pass(), 6)?;
+    Ok(n)
 }
 
 /// The front of a lent slice: 2 where it is short, 5 where a number in it isn't finite.

@@ -26,6 +26,7 @@ pub mod buffers;
 pub mod coverage;
 pub mod filter;
 pub mod kinds;
+pub mod pair;
 pub mod published;
 pub mod script;
 pub mod steps;

@@ -2,16 +2,17 @@
 
 use std::collections::BTreeMap;
 
-use crate::filter::{self, Filter, Open, Trouble};
+use crate::filter::{self, Filter, Open, Start, Trouble};
 use crate::kinds::Kind;
+use crate::pair::{Pair, Side};
 use crate::steps::Params;
 
 /// The longest line and the longest list or buffer that are taken.
 pub const LINE: usize = 16_384;
 pub const LIST: u64 = 512;
 
-/// How often each call gave each number, and beside it the stage or step that refused, the sizes of an accepted close, or the points before a setting.
-pub type Table = BTreeMap<(&'static str, u8, String), u64>;
+/// How often each call gave each number, and beside it the stage or step that refused, the sizes of an accepted close, or how things stood before it (`Reader::beside`).
+pub type Table = BTreeMap<(String, u8, String), u64>;
 
 /// What a `bad` line counts as.
 pub const BAD: u8 = 99;
@@ -20,9 +21,19 @@ pub const BAD: u8 = 99;
 pub const STALE: &str = "stale";
 pub const IN_USE: &str = "in use";
 
-/// A reader of scripts: the one current filter, and the table of what was met.
+/// The setters, and those of them that change a pair's sheet.
+pub const SETTERS: [&str; 5] = ["setx", "setp", "setq", "setpar", "setkind"];
+pub const SHEET: [&str; 3] = ["setq", "setpar", "setkind"];
+
+/// Whose call is open when a sheet change comes.
+pub const OWN_OPEN: &str = "own call open";
+pub const PARTNER_OPEN: &str = "partner's call open";
+pub const BOTH_OPEN: &str = "both calls open";
+
+/// A reader of scripts: the one current filter, the one current pair, and the table of what was met.
 pub struct Reader {
     pub filter: Filter,
+    pub pair: Pair,
     pub table: Table,
 }
 
@@ -31,7 +42,7 @@ struct Bad;
 
 /// What a line gives: its answer, and what the table counts.
 struct Told {
-    call: &'static str,
+    call: String,
     number: u8,
     more: String,
     text: String,
@@ -39,7 +50,7 @@ struct Told {
 
 impl Default for Reader {
     fn default() -> Self {
-        Reader { filter: Filter::empty(), table: Table::new() }
+        Reader { filter: Filter::empty(), pair: Pair::empty(), table: Table::new() }
     }
 }
 
@@ -57,60 +68,33 @@ impl Reader {
         };
         let told = match told {
             Ok(call) => self.take(call)?,
-            Err(Bad) => Told { call: "bad", number: BAD, more: String::new(), text: "bad".into() },
+            Err(Bad) => Told { call: "bad".into(), number: BAD, more: String::new(), text: "bad".into() },
         };
         *self.table.entry((told.call, told.number, told.more)).or_default() += 1;
         Ok(Some(told.text))
     }
 
     fn take(&mut self, call: Call) -> Result<Told, String> {
-        let filter = &mut self.filter;
         match call {
             Call::New(n, x, p, q, par) => {
                 let made = Filter::new(n, &x, &p, &q, par);
-                let (new, outcome) = match made {
-                    Ok(new) => (new, Ok(())),
-                    Err(trouble) => (Filter::empty(), Err(trouble)),
-                };
-                *filter = new;
-                bare("new", outcome)
+                renewed("new", &mut self.filter, made, Filter::empty())
             }
-            Call::SetX(x) => set("setx", filter, |filter| filter.set_x(&x)),
-            Call::SetP(p) => set("setp", filter, |filter| filter.set_p(&p)),
-            Call::SetQ(q) => set("setq", filter, |filter| filter.set_q(&q)),
-            Call::SetPar(par) => set("setpar", filter, |filter| filter.set_params(par)),
-            Call::SetKind(i, kind) => set("setkind", filter, |filter| filter.set_kind(i, kind)),
-            Call::Abandon => bare("abandon", filter.abandon()),
-            Call::Lent(which, length) => {
-                let mut buffer: Vec<f64> = (0..length).map(|i| f64::from_bits(0x4330_0000_0000_0000 + i)).collect();
-                let (name, outcome) = match which {
-                    Lent::OpenP => ("openp", filter.open_prediction(&mut buffer)),
-                    Lent::OpenC => ("openc", filter.open_correction(&mut buffer)),
-                    Lent::X => ("readx", filter.read_x(&mut buffer)),
-                    Lent::P => ("readp", filter.read_p(&mut buffer)),
-                    Lent::Q => ("readq", filter.read_q(&mut buffer)),
-                    Lent::Points => ("readpts", filter.read_points(&mut buffer)),
-                };
-                told(name, outcome, |number, _| format!("{number} {length}{}", bits(&buffer)))
+            Call::NewPair(n, x1, p1, x2, p2, q, par) => {
+                let made = Pair::new(n, [Start { x: &x1, p: &p1 }, Start { x: &x2, p: &p2 }], &q, par);
+                renewed("newpair", &mut self.pair, made, Pair::empty())
             }
-            Call::CloseP(propagated) => {
-                let outcome = filter.close_prediction(&propagated);
-                closed("closep", outcome, filter, String::new())
-            }
-            Call::CloseC(m, z, r, kinds, observed) => {
-                let outcome = filter.close_correction(m, &z, &r, kinds, &observed);
-                closed("closec", outcome, filter, format!(" m={m}"))
-            }
-            Call::CloseF(m, z, r, observed) => {
-                let outcome = filter.close_flat(m, &z, &r, &observed);
-                closed("closef", outcome, filter, format!(" m={m}"))
-            }
-            Call::ReadPar => told("readpar", filter.read_params(), |number, par| {
-                let par = par.unwrap_or_default();
-                format!("{number}{}", bits(&[par.alpha, par.beta, par.kappa]))
-            }),
-            Call::ReadStale => {
-                told("readstale", filter.read_stale(), |number, stale| format!("{number} {}", u8::from(stale.unwrap_or(true))))
+            Call::On(on, call) => {
+                let beside = self.beside(on, call.name());
+                let told = match (on, &call) {
+                    (Some(_), OnFilter::Set(setting)) if SHEET.contains(&setting.name()) => {
+                        bare(setting.name(), self.pair.change(|filter| setting.put(filter)))
+                    }
+                    (Some(side), _) => on_filter(self.pair.side_mut(side), call),
+                    (None, _) => on_filter(&mut self.filter, call),
+                }?;
+                let more = if told.more.is_empty() || on.is_some() && told.number == 0 { beside } else { told.more };
+                Ok(Told { call: named(on, &told.call), more, ..told })
             }
             Call::Point(n, k, list) => told("point", filter::point(n, k, &list), |number, part| {
                 let (start, length) = part.unwrap_or((0, 0));
@@ -121,36 +105,136 @@ impl Reader {
                 Some(root) => format!("{number}{}", bits(&[root])),
                 None => format!("{number}"),
             }),
-            Call::Dump => told("dump", Ok(()), |number, _| format!("{number} {}", dumped(filter))),
+        }
+    }
+
+    /// The solo filter, or a side.
+    pub fn filter(&self, on: Option<Side>) -> &Filter {
+        match on {
+            None => &self.filter,
+            Some(side) => self.pair.side(side),
+        }
+    }
+
+    /// How things stand before a call on a filter, as the table tells it: for a sheet change both sides count, for any other call on a side
+    /// what its partner has open, for a setting of the solo filter its own stage and points. The empty filter has nothing to tell.
+    pub fn beside(&self, on: Option<Side>, call: &str) -> String {
+        let own = self.filter(on);
+        match on {
+            _ if own.n == 0 => String::new(),
+            Some(side) if SHEET.contains(&call) => through(side, &sheet_meets(own, self.pair.side(side.partner()))),
+            Some(side) => with_partner(self.pair.side(side.partner()).open),
+            None if !SETTERS.contains(&call) => String::new(),
+            None if own.open != Open::Nothing => own.open.name().into(),
+            None => points(own).into(),
         }
     }
 }
 
+fn points(filter: &Filter) -> &'static str {
+    if filter.stale {
+        STALE
+    } else {
+        IN_USE
+    }
+}
+
+/// What a sheet change meets: open calls, or else points of both sides.
+fn sheet_meets(own: &Filter, partner: &Filter) -> String {
+    match (own.open, partner.open) {
+        (Open::Nothing, Open::Nothing) => on_points(points(own), points(partner)),
+        (_, Open::Nothing) => OWN_OPEN.into(),
+        (Open::Nothing, _) => PARTNER_OPEN.into(),
+        _ => BOTH_OPEN.into(),
+    }
+}
+
+pub fn on_points(own: &str, partner: &str) -> String {
+    format!("{own}, partner {partner}")
+}
+
+pub fn through(side: Side, met: &str) -> String {
+    format!("{} {met}", side.name())
+}
+
+pub fn with_partner(open: Open) -> String {
+    format!("partner with {}", open.name())
+}
+
+/// A call's name in the table: on a side with `@` before it.
+pub fn named(on: Option<Side>, call: &str) -> String {
+    match on {
+        None => call.into(),
+        Some(_) => format!("@{call}"),
+    }
+}
+
+/// What New made, or the empty one where it refuses.
+fn renewed<A>(call: &str, current: &mut A, made: Result<A, Trouble>, empty: A) -> Result<Told, String> {
+    let (new, outcome) = match made {
+        Ok(new) => (new, Ok(())),
+        Err(trouble) => (empty, Err(trouble)),
+    };
+    *current = new;
+    bare(call, outcome)
+}
+
+/// A call on a filter, the solo one or a side; but for changes of a pair's sheet.
+fn on_filter(filter: &mut Filter, call: OnFilter) -> Result<Told, String> {
+    let name = call.name();
+    match call {
+        OnFilter::Set(setting) => bare(name, setting.put(filter)),
+        OnFilter::Abandon => bare(name, filter.abandon()),
+        OnFilter::Lent(which, length) => {
+            let mut buffer: Vec<f64> = (0..length).map(|i| f64::from_bits(0x4330_0000_0000_0000 + i)).collect();
+            let outcome = match which {
+                Lent::OpenP => filter.open_prediction(&mut buffer),
+                Lent::OpenC => filter.open_correction(&mut buffer),
+                Lent::X => filter.read_x(&mut buffer),
+                Lent::P => filter.read_p(&mut buffer),
+                Lent::Q => filter.read_q(&mut buffer),
+                Lent::Points => filter.read_points(&mut buffer),
+            };
+            told(name, outcome, |number, _| format!("{number} {length}{}", bits(&buffer)))
+        }
+        OnFilter::CloseP(propagated) => {
+            let outcome = filter.close_prediction(&propagated);
+            closed(name, outcome, filter, String::new())
+        }
+        OnFilter::CloseC(m, z, r, kinds, observed) => {
+            let outcome = filter.close_correction(m, &z, &r, kinds, &observed);
+            closed(name, outcome, filter, format!(" m={m}"))
+        }
+        OnFilter::CloseF(m, z, r, observed) => {
+            let outcome = filter.close_flat(m, &z, &r, &observed);
+            closed(name, outcome, filter, format!(" m={m}"))
+        }
+        OnFilter::ReadPar => told(name, filter.read_params(), |number, par| {
+            let par = par.unwrap_or_default();
+            format!("{number}{}", bits(&[par.alpha, par.beta, par.kappa]))
+        }),
+        OnFilter::ReadStale => told(name, filter.read_stale(), |number, stale| format!("{number} {}", u8::from(stale.unwrap_or(true)))),
+        OnFilter::Dump => told(name, Ok(()), |number, _| format!("{number} {}", dumped(filter))),
+    }
+}
+
 /// An answer of a number alone.
-fn bare(call: &'static str, outcome: Result<(), Trouble>) -> Result<Told, String> {
+fn bare(call: &str, outcome: Result<(), Trouble>) -> Result<Told, String> {
     told(call, outcome, |number, _| number.to_string())
 }
 
-/// An answer to a setting; the table tells on what points. The empty filter has none.
-fn set(call: &'static str, filter: &mut Filter, setting: impl FnOnce(&mut Filter) -> Result<(), Trouble>) -> Result<Told, String> {
-    let before = match (filter.n, filter.stale) {
-        (0, _) => "",
-        (_, true) => STALE,
-        (_, false) => IN_USE,
-    };
-    Ok(Told { more: before.into(), ..bare(call, setting(filter))? })
-}
-
-fn told<A>(call: &'static str, outcome: Result<A, Trouble>, text: impl FnOnce(u8, Option<A>) -> String) -> Result<Told, String> {
+fn told<A>(call: &str, outcome: Result<A, Trouble>, text: impl FnOnce(u8, Option<A>) -> String) -> Result<Told, String> {
     match outcome {
-        Ok(answer) => Ok(Told { call, number: 0, more: String::new(), text: text(0, Some(answer)) }),
-        Err(Trouble::Refused(stop)) => Ok(Told { call, number: stop.number, more: stop.step.into(), text: text(stop.number, None) }),
+        Ok(answer) => Ok(Told { call: call.into(), number: 0, more: String::new(), text: text(0, Some(answer)) }),
+        Err(Trouble::Refused(stop)) => {
+            Ok(Told { call: call.into(), number: stop.number, more: stop.step.into(), text: text(stop.number, None) })
+        }
         Err(Trouble::Parted(why)) => Err(format!("{call}: {why}")),
     }
 }
 
 /// An answer to a close: x and P where it is accepted.
-fn closed(call: &'static str, outcome: Result<(), Trouble>, filter: &Filter, m: String) -> Result<Told, String> {
+fn closed(call: &str, outcome: Result<(), Trouble>, filter: &Filter, m: String) -> Result<Told, String> {
     let told = bare(call, outcome)?;
     if told.number != 0 {
         return Ok(told);
@@ -214,13 +298,39 @@ enum Lent {
     Points,
 }
 
-enum Call {
-    New(u64, Vec<f64>, Vec<f64>, Vec<f64>, Params),
-    SetX(Vec<f64>),
-    SetP(Vec<f64>),
-    SetQ(Vec<f64>),
-    SetPar(Params),
-    SetKind(u64, Kind),
+enum Setting {
+    X(Vec<f64>),
+    P(Vec<f64>),
+    Q(Vec<f64>),
+    Par(Params),
+    Kind(u64, Kind),
+}
+
+impl Setting {
+    fn name(&self) -> &'static str {
+        match self {
+            Setting::X(_) => "setx",
+            Setting::P(_) => "setp",
+            Setting::Q(_) => "setq",
+            Setting::Par(_) => "setpar",
+            Setting::Kind(..) => "setkind",
+        }
+    }
+
+    fn put(&self, filter: &mut Filter) -> Result<(), Trouble> {
+        match self {
+            Setting::X(x) => filter.set_x(x),
+            Setting::P(p) => filter.set_p(p),
+            Setting::Q(q) => filter.set_q(q),
+            Setting::Par(par) => filter.set_params(*par),
+            Setting::Kind(i, kind) => filter.set_kind(*i, *kind),
+        }
+    }
+}
+
+/// Calls on a filter, be it the solo filter or a side.
+enum OnFilter {
+    Set(Setting),
     Abandon,
     Lent(Lent, u64),
     CloseP(Vec<f64>),
@@ -228,10 +338,37 @@ enum Call {
     CloseF(u64, Vec<f64>, Vec<f64>, Vec<f64>),
     ReadPar,
     ReadStale,
+    Dump,
+}
+
+impl OnFilter {
+    fn name(&self) -> &'static str {
+        match self {
+            OnFilter::Set(setting) => setting.name(),
+            OnFilter::Abandon => "abandon",
+            OnFilter::Lent(Lent::OpenP, _) => "openp",
+            OnFilter::Lent(Lent::OpenC, _) => "openc",
+            OnFilter::Lent(Lent::X, _) => "readx",
+            OnFilter::Lent(Lent::P, _) => "readp",
+            OnFilter::Lent(Lent::Q, _) => "readq",
+            OnFilter::Lent(Lent::Points, _) => "readpts",
+            OnFilter::CloseP(_) => "closep",
+            OnFilter::CloseC(..) => "closec",
+            OnFilter::CloseF(..) => "closef",
+            OnFilter::ReadPar => "readpar",
+            OnFilter::ReadStale => "readstale",
+            OnFilter::Dump => "dump",
+        }
+    }
+}
+
+enum Call {
+    New(u64, Vec<f64>, Vec<f64>, Vec<f64>, Params),
+    NewPair(u64, Vec<f64>, Vec<f64>, Vec<f64>, Vec<f64>, Vec<f64>, Params),
+    On(Option<Side>, OnFilter),
     Point(u64, u64, Vec<f64>),
     Wrap(f64, f64),
     Root(f64),
-    Dump,
 }
 
 /// Reads a line whole before anything is done.
@@ -239,28 +376,13 @@ fn call(word: &[u8], mut tokens: Tokens) -> Result<Call, Bad> {
     let t = &mut tokens;
     let call = match word {
         b"new" => Call::New(t.size()?, t.list()?, t.list()?, t.list()?, t.params()?),
-        b"setx" => Call::SetX(t.list()?),
-        b"setp" => Call::SetP(t.list()?),
-        b"setq" => Call::SetQ(t.list()?),
-        b"setpar" => Call::SetPar(t.params()?),
-        b"setkind" => Call::SetKind(t.size()?, t.kind()?),
-        b"abandon" => Call::Abandon,
-        b"openp" => Call::Lent(Lent::OpenP, t.length()?),
-        b"openc" => Call::Lent(Lent::OpenC, t.length()?),
-        b"readx" => Call::Lent(Lent::X, t.length()?),
-        b"readp" => Call::Lent(Lent::P, t.length()?),
-        b"readq" => Call::Lent(Lent::Q, t.length()?),
-        b"readpts" => Call::Lent(Lent::Points, t.length()?),
-        b"closep" => Call::CloseP(t.list()?),
-        b"closec" => Call::CloseC(t.size()?, t.list()?, t.list()?, [t.kind()?, t.kind()?, t.kind()?, t.kind()?], t.list()?),
-        b"closef" => Call::CloseF(t.size()?, t.list()?, t.list()?, t.list()?),
-        b"readpar" => Call::ReadPar,
-        b"readstale" => Call::ReadStale,
+        b"newpair" => Call::NewPair(t.size()?, t.list()?, t.list()?, t.list()?, t.list()?, t.list()?, t.params()?),
+        b"@1" => Call::On(Some(Side::One), t.on_filter()?),
+        b"@2" => Call::On(Some(Side::Two), t.on_filter()?),
         b"point" => Call::Point(t.size()?, t.size()?, t.list()?),
         b"wrap" => Call::Wrap(t.float()?, t.float()?),
         b"root" => Call::Root(t.float()?),
-        b"dump" => Call::Dump,
-        _ => return Err(Bad),
+        _ => Call::On(None, t.on_filter_named(word)?),
     };
     match tokens.next() {
         None => Ok(call),
@@ -286,6 +408,42 @@ impl<'a> Tokens<'a> {
         let end = rest.iter().position(blank).unwrap_or(rest.len());
         self.rest = &rest[end..];
         Some(&rest[..end])
+    }
+
+    /// A call that a filter takes, with its name still to come.
+    fn on_filter(&mut self) -> Result<OnFilter, Bad> {
+        let word = self.next().ok_or(Bad)?;
+        self.on_filter_named(word)
+    }
+
+    fn on_filter_named(&mut self, word: &[u8]) -> Result<OnFilter, Bad> {
+        Ok(match word {
+            b"setx" => OnFilter::Set(Setting::X(self.list()?)),
+            b"setp" => OnFilter::Set(Setting::P(self.list()?)),
+            b"setq" => OnFilter::Set(Setting::Q(self.list()?)),
+            b"setpar" => OnFilter::Set(Setting::Par(self.params()?)),
+            b"setkind" => OnFilter::Set(Setting::Kind(self.size()?, self.kind()?)),
+            b"abandon" => OnFilter::Abandon,
+            b"openp" => OnFilter::Lent(Lent::OpenP, self.length()?),
+            b"openc" => OnFilter::Lent(Lent::OpenC, self.length()?),
+            b"readx" => OnFilter::Lent(Lent::X, self.length()?),
+            b"readp" => OnFilter::Lent(Lent::P, self.length()?),
+            b"readq" => OnFilter::Lent(Lent::Q, self.length()?),
+            b"readpts" => OnFilter::Lent(Lent::Points, self.length()?),
+            b"closep" => OnFilter::CloseP(self.list()?),
+            b"closec" => OnFilter::CloseC(
+                self.size()?,
+                self.list()?,
+                self.list()?,
+                [self.kind()?, self.kind()?, self.kind()?, self.kind()?],
+                self.list()?,
+            ),
+            b"closef" => OnFilter::CloseF(self.size()?, self.list()?, self.list()?, self.list()?),
+            b"readpar" => OnFilter::ReadPar,
+            b"readstale" => OnFilter::ReadStale,
+            b"dump" => OnFilter::Dump,
+            _ => return Err(Bad),
+        })
     }
 
     /// A decimal below 2^64.

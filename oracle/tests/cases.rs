@@ -52,5 +52,25 @@ fn lines() {
     assert_eq!(last("closef 1 0 0 0"), Some("3".into()));
     assert_eq!(last("closef 1 0 0"), bad);
     assert_eq!(last("closef 1 0 0 p p p p 0"), bad);
+    assert_eq!(last("@1 abandon"), Some("3".into()));
+    assert_eq!(last(" @2\tsetq 0 # on the empty pair"), Some("1".into()));
+    assert_eq!(last("newpair 0 0 0 0 0 0 0000000000000000 0000000000000000 0000000000000000"), Some("1".into()));
+    assert_eq!(last("newpair 0 0 0 0 0 0000000000000000 0000000000000000 0000000000000000"), bad);
+    for call in [
+        "",
+        "abandon now",
+        "root 4010000000000000",
+        "point 1 0 0",
+        "wrap 4010000000000000 4010000000000000",
+        "new",
+        "newpair",
+        "@2 abandon",
+    ] {
+        assert_eq!(last(&format!("@1 {call}")), bad, "@1 {call}");
+    }
+    for side in ["@1abandon", "@ 1 abandon", "@3 abandon", "@01 abandon", "1 abandon"] {
+        assert_eq!(last(side), bad, "{side}");
+    }
+    assert_eq!(last("@1 new 0 0 0 0 0000000000000000 0000000000000000 0000000000000000"), bad);
     assert_eq!(last("point 1 0 3 7FF0000000000001 FFF0000000000000 8000000000000000"), Some("0 0 1 7ff8000000000000".into()));
 }

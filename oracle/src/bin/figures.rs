@@ -5,8 +5,8 @@ use std::fs;
 use std::path::{Path, PathBuf};
 use std::process::ExitCode;
 
-use oracle::coverage::{count, count_with, holes, refused_with, CORRECTIONS, NUMBERS, SETTERS, STEPS};
-use oracle::script::{Reader, Table, BAD, IN_USE, STALE};
+use oracle::coverage::{count, count_with, holes, refused_with, CORRECTIONS, NUMBERS, STEPS};
+use oracle::script::{Reader, Table, BAD, IN_USE, SETTERS, STALE};
 
 const NAMES: [&str; 11] = ["accepted", "SIZE", "SHORT", "STAGE", "STALE", "NUMBER", "PARAM", "PIVOT", "INNOV", "RANGE", "KIND"];
 
