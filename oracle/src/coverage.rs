@@ -1,11 +1,19 @@
-//! What scripts should meet: every number that a call can give, every stage and step that can stop it, every setting on stale points and on points in use, every size.
+//! What scripts should meet. On the solo filter: every number that a call can give, every stage and step that can stop it,
+//! every setting on stale points and on points in use, every size. On a pair: every number, every change of its sheet through either side
+//! with whatever points and open calls, and every other call on a side with whatever its partner has open.
 
 use crate::filter::Open;
-use crate::script::{Table, IN_USE, SETTERS, STALE};
+use crate::pair::Side;
+use crate::script::{
+    before, named, on_points, through, with_partner, Table, BOTH_OPEN, IN_USE, OWN_OPEN, PARTNER_OPEN, SETTERS, SHEET, STALE,
+};
 
-/// The numbers that each call can give in a script. (Opening never gives 6; on the empty filter abandon and closes give 3.)
-pub const NUMBERS: [(&str, &[u8]); 22] = [
-    ("new", &[0, 1, 2, 5, 6]),
+/// The numbers that the calls on no filter, and those that make one, can give in a script.
+const ALONE: [(&str, &[u8]); 5] =
+    [("new", &[0, 1, 2, 5, 6]), ("newpair", &[0, 1, 2, 5, 6]), ("point", &[0, 1, 2]), ("wrap", &[0, 5, 6]), ("root", &[0, 5])];
+
+/// Those of the calls on a filter, the solo one or a side. (Opening never gives 6; on the empty filter abandon and closes give 3.)
+const ON_FILTER: [(&str, &[u8]); 18] = [
     ("setx", &[0, 1, 2, 3, 5]),
     ("setp", &[0, 1, 2, 3, 5]),
     ("setq", &[0, 1, 2, 3, 5]),
@@ -23,11 +31,14 @@ pub const NUMBERS: [(&str, &[u8]); 22] = [
     ("readpts", &[0, 1, 2, 4]),
     ("readpar", &[0, 1]),
     ("readstale", &[0, 1]),
-    ("point", &[0, 1, 2]),
-    ("wrap", &[0, 5, 6]),
-    ("root", &[0, 5]),
     ("dump", &[0]),
 ];
+
+/// The numbers of every call, by its name in the table.
+pub fn numbers() -> impl Iterator<Item = (String, &'static [u8])> {
+    let on = |side| ON_FILTER.iter().map(move |(call, numbers)| (named(side, call), *numbers));
+    ALONE.iter().map(|(call, numbers)| (named(None, call), *numbers)).chain(on(None)).chain(on(Some(Side::One)))
+}
 
 /// The stages and steps in which a call can stop, in running order.
 pub const STEPS: [(&str, &[(u8, &str)]); 5] =
@@ -72,16 +83,74 @@ pub fn count_with(table: &Table, call: &str, number: u8, more: &str) -> u64 {
     sum(table, call, |n, m| n == number && m == more)
 }
 
+/// How often a call gave a number, what is told beside it beginning like this.
+fn count_under(table: &Table, call: &str, number: u8, start: &str) -> u64 {
+    sum(table, call, |n, more| n == number && more.starts_with(start))
+}
+
 /// How often a setting was refused on these points; but by 3, which looks at nothing that is lent.
 pub fn refused_with(table: &Table, call: &str, points: &str) -> u64 {
     sum(table, call, |n, m| ![0, 3].contains(&n) && m == points)
 }
 
+/// The stages of a partner.
+pub const STAGES: [Open; 3] = [Open::Nothing, Open::Prediction, Open::Correction];
+
+/// How often calls on a side, but for sheet changes, were accepted with each stage of the partner.
+pub fn beside_partner(table: &Table) -> impl Iterator<Item = (String, [u64; 3])> + '_ {
+    let calls = ON_FILTER.iter().filter(|(call, _)| !SHEET.contains(call)).map(|(call, _)| named(Some(Side::One), call));
+    calls.map(|call| (call.clone(), STAGES.map(|open| count_with(table, &call, 0, &with_partner(open)))))
+}
+
+/// How often a sheet change came through this side: accepted, by the points of both, and refused by 3, by whose call was open.
+pub fn sheet_changes(table: &Table, call: &str, side: Side) -> Vec<(String, u64)> {
+    let call = named(Some(side), call);
+    let accepted = [(STALE, STALE), (STALE, IN_USE), (IN_USE, STALE), (IN_USE, IN_USE)].map(|(own, partner)| {
+        let met = on_points(own, partner);
+        (format!("accepted, {met}"), count_with(table, &call, 0, &through(side, &met)))
+    });
+    let waits = [OWN_OPEN, PARTNER_OPEN, BOTH_OPEN].map(|met| (met.to_string(), count_under(table, &call, 3, &through(side, met))));
+    accepted.into_iter().chain(waits).collect()
+}
+
+/// What a setting can be refused by for what it is lent.
+pub const FAULTS: [(&str, &[u8]); 5] =
+    [("setx", &[2, 5]), ("setp", &[2, 5]), ("setq", &[2, 5]), ("setpar", &[5, 6]), ("setkind", &[1, 5, 6])];
+
+/// How often a sheet change with a fault was refused, through either side: for the fault, by the partner's points,
+/// and by 3 for the partner's call, by the number that had to wait.
+pub fn faulty_changes(table: &Table, call: &str) -> Vec<(String, u64)> {
+    let name = named(Some(Side::One), call);
+    let either = |count: &dyn Fn(Side) -> u64| Side::BOTH.iter().map(|side| count(*side)).sum();
+    let refused = [STALE, IN_USE].map(|partner| {
+        let on = |own, side| refused_with(table, &name, &through(side, &on_points(own, partner)));
+        (format!("refused, partner {partner}"), either(&|side| on(STALE, side) + on(IN_USE, side)))
+    });
+    let numbers = FAULTS.iter().filter(|(setter, _)| *setter == call).flat_map(|(_, numbers)| *numbers);
+    let first = numbers.map(|number| {
+        let met = |side| before(&through(side, PARTNER_OPEN), Some(*number));
+        (before(PARTNER_OPEN, Some(*number)), either(&|side| count_with(table, &name, 3, &met(side))))
+    });
+    refused.into_iter().chain(first).collect()
+}
+
 /// What was not met.
 pub fn holes(table: &Table) -> Vec<String> {
     let mut holes = Vec::new();
-    for (call, numbers) in NUMBERS {
-        holes.extend(numbers.iter().filter(|number| count(table, call, **number) == 0).map(|number| format!("{call}: {number}")));
+    for (call, numbers) in numbers() {
+        holes.extend(numbers.iter().filter(|number| count(table, &call, **number) == 0).map(|number| format!("{call}: {number}")));
+    }
+    for (call, counts) in beside_partner(table) {
+        let unmet = STAGES.iter().zip(counts).filter(|(_, count)| *count == 0);
+        holes.extend(unmet.map(|(open, _)| format!("{call} accepted, {}", with_partner(*open))));
+    }
+    for (call, side) in SHEET.iter().flat_map(|call| Side::BOTH.map(|side| (call, side))) {
+        let unmet = sheet_changes(table, call, side).into_iter().filter(|(_, count)| *count == 0);
+        holes.extend(unmet.map(|(met, _)| format!("{} {call} {met}", side.name())));
+    }
+    for call in SHEET {
+        let unmet = faulty_changes(table, call).into_iter().filter(|(_, count)| *count == 0);
+        holes.extend(unmet.map(|(met, _)| format!("@{call} {met}")));
     }
     for (call, steps) in STEPS {
         let unmet = steps.iter().filter(|(number, step)| count_with(table, call, *number, step) == 0);

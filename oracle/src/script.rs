@@ -11,7 +11,8 @@ use crate::steps::Params;
 pub const LINE: usize = 16_384;
 pub const LIST: u64 = 512;
 
-/// How often each call gave each number, and beside it the stage or step that refused, the sizes of an accepted close, or how things stood before it (`Reader::beside`).
+/// How often each call gave each number, and beside it the stage or step that refused, the sizes of an accepted close of the solo filter,
+/// or how things stood before the call (`Reader::beside`).
 pub type Table = BTreeMap<(String, u8, String), u64>;
 
 /// What a `bad` line counts as.
@@ -21,7 +22,7 @@ pub const BAD: u8 = 99;
 pub const STALE: &str = "stale";
 pub const IN_USE: &str = "in use";
 
-/// The setters, and those of them that change a pair's sheet.
+/// The setters, x and P first, and those of them that change a pair's sheet.
 pub const SETTERS: [&str; 5] = ["setx", "setp", "setq", "setpar", "setkind"];
 pub const SHEET: [&str; 3] = ["setq", "setpar", "setkind"];
 
@@ -87,8 +88,10 @@ impl Reader {
             Call::On(on, call) => {
                 let beside = self.beside(on, call.name());
                 let told = match (on, &call) {
-                    (Some(_), OnFilter::Set(setting)) if SHEET.contains(&setting.name()) => {
-                        bare(setting.name(), self.pair.change(|filter| setting.put(filter)))
+                    (Some(side), OnFilter::Set(setting)) if SHEET.contains(&setting.name()) => {
+                        let told = bare(setting.name(), self.pair.change(|filter| setting.put(filter)))?;
+                        let more = if told.number == 3 { before(&beside, setting.fault(self.pair.side(side))) } else { String::new() };
+                        Ok(Told { more, ..told })
                     }
                     (Some(side), _) => on_filter(self.pair.side_mut(side), call),
                     (None, _) => on_filter(&mut self.filter, call),
@@ -155,6 +158,14 @@ pub fn on_points(own: &str, partner: &str) -> String {
 
 pub fn through(side: Side, met: &str) -> String {
     format!("{} {met}", side.name())
+}
+
+/// A 3 that came before this number, if any.
+pub fn before(met: &str, number: Option<u8>) -> String {
+    match number {
+        None => met.into(),
+        Some(number) => format!("{met}, before {number}"),
+    }
 }
 
 pub fn with_partner(open: Open) -> String {
@@ -324,6 +335,15 @@ impl Setting {
             Setting::Q(q) => filter.set_q(q),
             Setting::Par(par) => filter.set_params(*par),
             Setting::Kind(i, kind) => filter.set_kind(*i, *kind),
+        }
+    }
+
+    /// What it would be refused by on a filter like this one with nothing open.
+    fn fault(&self, filter: &Filter) -> Option<u8> {
+        let new = Filter::new(filter.n as u64, &filter.x, &filter.p, &filter.q, filter.par);
+        match new.and_then(|mut new| self.put(&mut new)) {
+            Err(Trouble::Refused(stop)) => Some(stop.number),
+            _ => None,
         }
     }
 }

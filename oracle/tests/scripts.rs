@@ -2,7 +2,7 @@
 
 use std::process::Command;
 
-use oracle::coverage::{holes, NUMBERS};
+use oracle::coverage::{holes, numbers};
 use oracle::script::Reader;
 
 #[test]
@@ -17,7 +17,7 @@ fn every_refusal_is_met() {
     assert_eq!(calls, 20_000);
     assert_eq!(holes(&reader.table), Vec::<String>::new());
     for (call, number, _) in reader.table.keys() {
-        let expected = call == "bad" || NUMBERS.iter().any(|(c, numbers)| c == call && numbers.contains(number));
+        let expected = call == "bad" || numbers().any(|(c, numbers)| c == *call && numbers.contains(number));
         assert!(expected, "{call} gave {number}");
     }
 }

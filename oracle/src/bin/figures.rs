@@ -5,8 +5,11 @@ use std::fs;
 use std::path::{Path, PathBuf};
 use std::process::ExitCode;
 
-use oracle::coverage::{count, count_with, holes, refused_with, CORRECTIONS, NUMBERS, STEPS};
-use oracle::script::{Reader, Table, BAD, IN_USE, SETTERS, STALE};
+use oracle::coverage::{
+    beside_partner, count, count_with, faulty_changes, holes, numbers, refused_with, sheet_changes, CORRECTIONS, STAGES, STEPS,
+};
+use oracle::pair::Side;
+use oracle::script::{Reader, Table, BAD, IN_USE, SETTERS, SHEET, STALE};
 
 const NAMES: [&str; 11] = ["accepted", "SIZE", "SHORT", "STAGE", "STALE", "NUMBER", "PARAM", "PIVOT", "INNOV", "RANGE", "KIND"];
 
@@ -95,7 +98,7 @@ impl Figures {
     }
 
     fn print(&self) {
-        let total = |number: u8| NUMBERS.iter().map(|(call, _)| count(&self.table, call, number)).sum::<u64>();
+        let total = |number: u8| numbers().map(|(call, _)| count(&self.table, &call, number)).sum::<u64>();
         println!("calls             {:>10}", self.calls);
         for (number, name) in NAMES.iter().enumerate() {
             println!("  {number:<2} {name:<12} {:>10}", total(number as u8));
@@ -106,10 +109,10 @@ impl Figures {
         println!("differences       {:>10}", self.differences);
 
         let columns = 0..NAMES.len() as u8;
-        println!("\n{:<10}{}", "call", columns.clone().map(|number| format!("{number:>7}")).collect::<String>());
-        for (call, numbers) in NUMBERS {
-            let cell = |number: u8| if numbers.contains(&number) { count(&self.table, call, number).to_string() } else { ".".into() };
-            println!("{call:<10}{}", columns.clone().map(|number| format!("{:>7}", cell(number))).collect::<String>());
+        println!("\n{:<11}{}", "call", columns.clone().map(|number| format!("{number:>7}")).collect::<String>());
+        for (call, numbers) in numbers() {
+            let cell = |number: u8| if numbers.contains(&number) { count(&self.table, &call, number).to_string() } else { ".".into() };
+            println!("{call:<11}{}", columns.clone().map(|number| format!("{:>7}", cell(number))).collect::<String>());
         }
         println!("\nwhere calls stopped");
         for (call, steps) in STEPS {
@@ -122,6 +125,22 @@ impl Figures {
             let accepted = |points| count_with(&self.table, call, 0, points);
             let refused = |points| refused_with(&self.table, call, points);
             println!("{call:<20} {:>7}{:>9} {:>28}{:>9}", accepted(STALE), accepted(IN_USE), refused(STALE), refused(IN_USE));
+        }
+        println!("\naccepted on a side, its partner with {}", STAGES.map(|open| format!("{:>17}", open.name())).concat());
+        for (call, counts) in beside_partner(&self.table) {
+            println!("{call:<36} {}", counts.map(|count| format!("{count:>17}")).concat());
+        }
+        println!("\nsheet changes through a side                 {}", SHEET.map(|call| format!("{call:>9}")).concat());
+        for side in Side::BOTH {
+            let columns = SHEET.map(|call| sheet_changes(&self.table, call, side));
+            for (at, (met, _)) in columns[0].iter().enumerate() {
+                let counts: String = columns.iter().map(|column| format!("{:>9}", column[at].1)).collect();
+                println!("{} {met:<42}{counts}", side.name());
+            }
+        }
+        for call in SHEET {
+            let counts = faulty_changes(&self.table, call).into_iter().map(|(met, count)| format!("   {met}: {count}"));
+            println!("@{call:<8}{}", counts.collect::<String>());
         }
         println!("\naccepted closes       {}", (1..=8).map(|n| format!("{:>7}", format!("n={n}"))).collect::<String>());
         let line = |name: &str, cell: &dyn Fn(usize) -> u64| {

@@ -1,18 +1,21 @@
 //! Calls that are refused on their face (1 to 6 and 10), lines that are no calls, and calls by pure chance.
 
+use oracle::coverage::{count, count_with, FAULTS};
 use oracle::filter::{list_length, Open};
 use oracle::kinds::Kind;
-use oracle::script::LINE;
+use oracle::script::{before, named, LINE, SHEET};
 use oracle::steps::{Average, Params};
 
 use crate::maker::{float, kind, params, written, Fault, Made, Maker};
 
 impl Maker {
-    /// One fault, at times more than one, so that their order shows.
-    fn faults(&mut self, among: usize) -> Vec<bool> {
-        let mut faults = vec![false; among];
-        for _ in 0..self.random.pick(&[1, 1, 1, 2, 3]) {
-            let at = self.random.below(among);
+    /// One fault, at times more than one, so that their order shows. The call answers each by its number; the first is mostly one that it gave least often.
+    fn faults(&mut self, call: &str, numbers: &[u8]) -> Vec<bool> {
+        let met: Vec<u64> = numbers.iter().map(|number| count(&self.reader.table, call, *number)).collect();
+        let mut faults = vec![false; numbers.len()];
+        faults[self.rare(&met)] = true;
+        for _ in 0..self.random.pick(&[0, 0, 0, 1, 2]) {
+            let at = self.random.below(numbers.len());
             faults[at] = true;
         }
         faults
@@ -33,41 +36,42 @@ impl Maker {
 
     /// New with faults, and what the empty filter then answers.
     pub fn refused_new(&mut self, n: usize) -> Made<()> {
-        let (x, p, q) = (self.random.vector(n, 1.0), self.random.covariance(n, 1.0), self.random.noise(n, 1.0));
-        let f = self.faults(9);
-        let par = match (f[7], f[8]) {
-            (_, true) => self.random.failing_params(n),
-            _ => self.random.params(n),
-        };
-        let mut three = [par.alpha, par.beta, par.kappa];
-        if f[7] {
-            three[self.random.below(3)] = self.random.not_finite();
+        for _ in 0..self.random.between(1, 3) {
+            let lists = [self.random.vector(n, 1.0), self.random.covariance(n, 1.0), self.random.noise(n, 1.0)];
+            let (name, lists) = self.new_lists(n, 1.0, lists);
+            let count = lists.len();
+            // Of n, of each list its length and a number, of the parameters a number and all three together.
+            let numbers: Vec<u8> = [vec![1], vec![2; count], vec![5; count], vec![5, 6]].concat();
+            let f = self.faults(name, &numbers);
+            let par = if f[2 * count + 2] { self.random.failing_params(n) } else { self.random.params(n) };
+            let mut three = [par.alpha, par.beta, par.kappa];
+            if f[2 * count + 1] {
+                three[self.random.below(3)] = self.random.not_finite();
+            }
+            let size = if f[0] { self.no_size(8) } else { n as u64 };
+            let mut line = format!("{name} {size}");
+            for (at, list) in lists.iter().enumerate() {
+                let fault = self.fault(f[1 + at], f[1 + count + at]);
+                line = format!("{line} {}", self.list(list, fault));
+            }
+            self.tell(line + &params(Params { alpha: three[0], beta: three[1], kappa: three[2] }))?;
         }
-        let size = if f[0] { self.no_size(8) } else { n as u64 };
-        let (fx, fp, fq) = (self.fault(f[1], f[4]), self.fault(f[2], f[5]), self.fault(f[3], f[6]));
-        let line = format!(
-            "new {size} {} {} {}{}",
-            self.list(&x, fx),
-            self.list(&p, fp),
-            self.list(&q, fq),
-            params(Params { alpha: three[0], beta: three[1], kappa: three[2] })
-        );
-        self.say(line)?;
         self.on_the_empty_filter()
     }
 
     /// Any calls on whatever filter there is, mostly the empty one.
     pub fn on_the_empty_filter(&mut self) -> Made<()> {
-        for _ in 0..self.random.between(1, 8) {
-            match self.random.below(6) {
-                0 => self.reading()?,
-                1 => self.setter(1.0)?,
-                2 => {
-                    let line = self.random.pick(&["openp 136", "openc 136", "openp 0", "openc 3", "dump", "setkind 0 p"]);
-                    self.say(line)?;
+        for _ in 0..self.random.between(3, 10) {
+            self.turn();
+            match self.random.below(9) {
+                0..=2 => self.reading()?,
+                3..=4 => self.setter(1.0)?,
+                5 => {
+                    let (call, length) = (self.rare_call(&["openp", "openc"], &[1]), self.random.pick(&[136, 3, 0]));
+                    self.say(format!("{call} {length}"))?;
                 }
-                3 => self.wrong_close()?,
-                4 => self.stray()?,
+                6 => self.wrong_close()?,
+                7 => self.stray()?,
                 _ => self.random_call()?,
             }
         }
@@ -93,8 +97,12 @@ impl Maker {
     /// Faults in either close; on a filter with a turn the flat one has that fault besides.
     pub fn faulty_close_correction(&mut self, z: &[f64], r: &[f64], measured: &[Kind], observed: &[f64]) -> Made<()> {
         let (m, average) = (z.len(), self.average());
-        // The last two are faults of measurement kinds, which the flat close hasn't.
-        let f = self.faults(if average == Average::Flat { 8 } else { 10 });
+        // Of m, of z, R and the points their lengths and numbers, of a pivot; the last two are faults of measurement kinds, which the flat close hasn't.
+        let numbers = [1, 2, 2, 2, 5, 5, 5, 8, 6, 5];
+        let f = match average {
+            Average::Weighted => self.faults(&named(self.on, "closec"), &numbers),
+            Average::Flat => self.faults(&named(self.on, "closef"), &numbers[..8]),
+        };
         let mut measured = measured.to_vec();
         if f.get(8) == Some(&true) {
             measured[self.random.below(m)] = Kind::Turn(self.random.failing_half_turn());
@@ -116,31 +124,51 @@ impl Maker {
         self.after_refusal()
     }
 
-    /// A setter with faults.
+    /// A setter with faults; on a pair mostly one of its sheet.
     pub fn refused_setter(&mut self) -> Made<()> {
+        let calls = if self.on.is_some() && self.random.chance(65) { &SHEET } else { self.setters() };
+        self.refused_set(calls)
+    }
+
+    fn met_fault(&self, call: &str, number: u8) -> u64 {
+        let waited = before(&self.reader.beside(self.on, call), Some(number));
+        self.met(self.on, call, &[number]) + count_with(&self.reader.table, &named(self.on, call), 3, &waited)
+    }
+
+    /// One of these setters with a fault, mostly that which was least met, things being as they are; whether it was answered or had to wait.
+    pub fn refused_set(&mut self, calls: &[&str]) -> Made<()> {
+        let faults: Vec<(&str, u8)> = FAULTS
+            .iter()
+            .filter(|(call, _)| calls.contains(call))
+            .flat_map(|(call, numbers)| numbers.iter().map(|number| (*call, *number)))
+            .collect();
+        let met: Vec<u64> = faults.iter().map(|(call, number)| self.met_fault(call, *number)).collect();
+        let (call, number) = faults[self.rare(&met)];
         let n = self.n().max(1);
-        let fault = self.random.pick(&[Fault::Short, Fault::Number]);
-        let line = match self.random.below(6) {
-            0 => {
+        let fault = if number == 2 { Fault::Short } else { Fault::Number };
+        let line = match call {
+            "setx" => {
                 let x = self.random.vector(n, 1.0);
                 format!("setx {}", self.list(&x, fault))
             }
-            1 => {
+            "setp" => {
                 let p = self.random.covariance(n, 1.0);
                 format!("setp {}", self.list(&p, fault))
             }
-            2 => {
+            "setq" => {
                 let q = self.random.noise(n, 1.0);
                 format!("setq {}", self.list(&q, fault))
             }
-            3 => {
+            "setpar" => {
                 let par = self.random.failing_params(n);
-                let par = if self.random.chance(60) { par } else { Params { beta: self.random.not_finite(), ..par } };
+                let par = if number == 6 { par } else { Params { beta: self.random.not_finite(), ..par } };
                 format!("setpar{}", params(par))
             }
             _ => {
-                let i = if self.random.chance(40) { self.no_size(n as u64).max(n as u64) } else { self.random.below(n) as u64 };
-                let h = if self.random.chance(40) { self.random.not_finite() } else { self.random.failing_half_turn() };
+                let i = if number == 1 { self.no_size(n as u64).max(n as u64) } else { self.random.below(n) as u64 };
+                // Out of range, either fault of h comes later.
+                let not_finite = number == 5 || number == 1 && self.random.chance(40);
+                let h = if not_finite { self.random.not_finite() } else { self.random.failing_half_turn() };
                 format!("setkind {i} {}", kind(Kind::Turn(h)))
             }
         };
@@ -152,7 +180,7 @@ impl Maker {
     pub fn wrong_close(&mut self) -> Made<()> {
         let list = vec![1.0; list_length(self.n().max(1))];
         let fault = self.random.pick(&[Fault::None, Fault::Short, Fault::Number]);
-        let line = if self.reader.filter.open == Open::Correction || self.random.chance(50) {
+        let line = if self.filter().open == Open::Correction || self.random.chance(50) {
             format!("closep {}", self.list(&list, fault))
         } else {
             let (average, m) = (self.either(), self.random.pick(&[0, 1, 1, 5, u64::MAX]));
@@ -185,7 +213,7 @@ impl Maker {
                 1 => self.wrapped(),
                 _ => self.pointed(),
             };
-            self.say(line)?;
+            self.tell(line)?;
         }
         Ok(())
     }
@@ -209,10 +237,10 @@ impl Maker {
     fn wrapped(&mut self) -> String {
         let unit = self.unit();
         let h = self.random.half_turn(unit);
-        let (d, h) = match self.random.below(12) {
+        let (d, h) = match self.random.below(13) {
             0 => (self.random.finite(), h),
             1 => (self.random.finite(), self.random.finite().abs()),
-            2 => (self.random.finite(), self.random.failing_half_turn()),
+            2 | 12 => (self.random.finite(), self.random.failing_half_turn()),
             3 => (self.random.not_finite(), h),
             4 => (self.random.finite(), self.random.not_finite()),
             5 => (self.random.odd(), h),
@@ -227,7 +255,8 @@ impl Maker {
     fn pointed(&mut self) -> String {
         let n = 1 + self.random.below(8);
         let list: Vec<f64> = (0..list_length(n)).map(|_| self.random.junk()).collect();
-        let f = self.faults(6);
+        // At times none.
+        let f = self.faults("point", &[1, 1, 2, 0, 0, 0]);
         let size = if f[0] { self.no_size(8) } else { n as u64 };
         let k = if f[1] { self.no_size(2 * n as u64).max(2 * n as u64 + 1) } else { self.random.below(2 * n + 1) as u64 };
         let list = self.list(&list, if f[2] { Fault::Short } else { Fault::None });
@@ -236,6 +265,9 @@ impl Maker {
 
     /// A line that is no call; as a rule. What it is answered, the reader decides.
     pub fn bad(&mut self) -> Made<()> {
+        if self.on.is_some() && self.random.chance(50) {
+            return self.bad_side();
+        }
         let whole = format!("setx {}", written(&self.random.vector(3, 1.0)));
         let line: Vec<u8> = match self.random.below(27) {
             0 => whole[..whole.len() - 1].into(),
@@ -270,7 +302,8 @@ impl Maker {
                 let filling = self.random.pick(&[" ", "#", "\t"]);
                 let line = format!("root {}", float(2.0));
                 let more = LINE + extra - line.len();
-                format!("{line}{}", filling.repeat(more)).into()
+                self.tell(format!("{line}{}", filling.repeat(more)))?;
+                return Ok(());
             }
         };
         self.say(line)?;
@@ -323,13 +356,14 @@ impl Maker {
 
     /// A new filter and then calls by chance.
     pub fn wild(&mut self, n: usize) -> Made<()> {
-        let unit = self.unit();
-        self.fresh(n, unit)?;
+        let (unit, turns) = (self.unit(), self.random.chance(50));
+        self.fresh(n, unit, turns)?;
         for _ in 0..self.random.between(5, 25) {
+            self.turn();
             match self.random.below(6) {
                 0 => self.setter(unit)?,
-                1 if self.reader.filter.open == Open::Nothing => self.prediction(unit)?,
-                2 if self.reader.filter.open == Open::Nothing => self.correction(unit)?,
+                1 if self.shut() => self.prediction(unit)?,
+                2 if self.shut() => self.correction(unit)?,
                 3 => self.reading()?,
                 _ => self.random_call()?,
             }

@@ -1,10 +1,11 @@
 //! scripts SEED CALLS: writes a script of that many calls, the same for the same seed.
-//! It runs the calls as it writes them, so that it knows the filter and can aim: mostly at accepted closes, now and then at each refusal.
+//! It runs the calls as it writes them, so that it knows the filters and can aim: mostly at accepted closes, now and then at each refusal.
 
 mod faults;
 mod maker;
 mod numbers;
 mod overflows;
+mod pairs;
 mod rounds;
 
 use std::process::ExitCode;

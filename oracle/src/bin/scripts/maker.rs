@@ -4,9 +4,10 @@ use std::convert::Infallible;
 use std::io::{self, BufWriter, Stdout, Write};
 
 use oracle::coverage::count_with;
-use oracle::filter::list_length;
+use oracle::filter::{list_length, Filter, Open};
 use oracle::kinds::Kind;
-use oracle::script::{bits, Reader, BAD};
+use oracle::pair::Side;
+use oracle::script::{bits, named, Reader, BAD};
 use oracle::steps::{Average, Params};
 
 use crate::numbers::Random;
@@ -22,10 +23,13 @@ pub type Made<A> = Result<A, End>;
 pub struct Maker {
     pub random: Random,
     pub reader: Reader,
+    /// On whom calls are made: the solo filter, or a side of the pair.
+    pub on: Option<Side>,
     out: BufWriter<Stdout>,
     left: u64,
-    episodes: u64,
-    /// How often `overflow` has aimed at a step.
+    /// How many episodes there were on the solo filter and on pairs.
+    episodes: [u64; 2],
+    /// How often `overflow` has aimed at a step of the solo filter.
     pub aims: u64,
 }
 
@@ -42,33 +46,52 @@ impl Maker {
         Maker {
             random: Random::new(seed),
             reader: Reader::default(),
+            on: None,
             out: BufWriter::new(io::stdout()),
             left: calls,
-            episodes: seed,
+            episodes: [seed; 2],
             aims: seed,
         }
     }
 
     /// Writes episodes until there are enough calls.
     pub fn script(&mut self) -> Made<Infallible> {
-        if self.random.chance(50) {
-            self.on_the_empty_filter()?;
+        for on in [None, Some(Side::One)] {
+            self.on = on;
+            if self.random.chance(50) {
+                self.on_the_empty_filter()?;
+            }
         }
         loop {
-            // Every size in turn, so that a short script meets them all.
-            let n = 1 + (self.episodes % 8) as usize;
-            self.episodes += 1;
-            match self.random.below(11) {
+            let paired = self.random.chance(25);
+            self.on = paired.then_some(Side::One);
+            self.turn();
+            // Every size in turn and, eleven being prime to eight, every sort of episode with each, so that a short script meets them all.
+            // Pairs have fewer episodes and are led to fewer steps, but the empty pair has as many calls to refuse.
+            let at = self.episodes[usize::from(paired)];
+            self.episodes[usize::from(paired)] += 1;
+            let n = 1 + (at % 8) as usize;
+            match at % 11 {
                 0 => self.refused_new(n)?,
-                1..=2 => self.wild(n)?,
-                3..=6 => self.overflow(n)?,
-                _ => self.episode(n)?,
+                4 if paired => self.refused_new(n)?,
+                3 | 7 => self.wild(n)?,
+                2 | 4 | 6 | 9 => self.overflow(n)?,
+                sort => self.episode(n, sort % 2 == 0)?,
             }
+            self.bystander()?;
         }
     }
 
-    /// A line that gets an answer: the number of that answer, or BAD.
+    /// A call on the solo filter or on the side whose turn it is: the number of its answer, or BAD.
     pub fn say(&mut self, line: impl AsRef<[u8]>) -> Made<u8> {
+        match self.on {
+            None => self.tell(line),
+            Some(side) => self.tell([side.name().as_bytes(), line.as_ref()].join(&b' ')),
+        }
+    }
+
+    /// A line that gets an answer, as it is.
+    pub fn tell(&mut self, line: impl AsRef<[u8]>) -> Made<u8> {
         let line = line.as_ref();
         if self.left == 0 {
             self.out.flush().map_err(trouble)?;
@@ -86,8 +109,38 @@ impl Maker {
         self.out.write_all(line).and_then(|()| self.out.write_all(b"\n")).map_err(trouble)
     }
 
+    pub fn filter(&self) -> &Filter {
+        self.reader.filter(self.on)
+    }
+
     pub fn n(&self) -> usize {
-        self.reader.filter.n
+        self.filter().n
+    }
+
+    /// Whether nothing is open.
+    pub fn shut(&self) -> bool {
+        self.filter().open == Open::Nothing
+    }
+
+    /// Any of so many, but mostly one of those least met so far, so that a short script meets them all.
+    pub fn rare(&mut self, met: &[u64]) -> usize {
+        if self.random.chance(25) {
+            return self.random.below(met.len());
+        }
+        let least: Vec<usize> = (0..met.len()).filter(|at| met.iter().all(|other| met[*at] <= *other)).collect();
+        self.random.pick(&least)
+    }
+
+    /// How often a call gave these numbers, things being as they are.
+    pub fn met(&self, on: Option<Side>, call: &str, numbers: &[u8]) -> u64 {
+        let (name, beside) = (named(on, call), self.reader.beside(on, call));
+        numbers.iter().map(|number| count_with(&self.reader.table, &name, *number, &beside)).sum()
+    }
+
+    /// One of these calls, mostly the one that least often gave these numbers, things being as they are.
+    pub fn rare_call(&mut self, calls: &[&'static str], numbers: &[u8]) -> &'static str {
+        let met: Vec<u64> = calls.iter().map(|call| self.met(self.on, call, numbers)).collect();
+        calls[self.rare(&met)]
     }
 
     /// A LIST that holds these numbers, or that has a fault. What a call needs is all of them; the rest is junk.
@@ -135,10 +188,22 @@ impl Maker {
         }
     }
 
-    pub fn new_line(&mut self, n: usize, x: &[f64], p: &[f64], q: &[f64], par: Params) -> Made<u8> {
-        let line =
-            format!("new {n} {} {} {}{}", self.list(x, Fault::None), self.list(p, Fault::None), self.list(q, Fault::None), params(par));
-        self.say(line)
+    /// New's name, and the lists that it is lent: on a pair those of the side whose turn it is, and an x and a P of about this unit for its partner.
+    pub fn new_lists(&mut self, n: usize, unit: f64, [x, p, q]: [Vec<f64>; 3]) -> (&'static str, Vec<Vec<f64>>) {
+        let Some(side) = self.on else {
+            return ("new", vec![x, p, q]);
+        };
+        let (x2, p2) = (self.random.vector(n, unit), self.random.covariance(n, unit));
+        match side {
+            Side::One => ("newpair", vec![x, p, x2, p2, q]),
+            Side::Two => ("newpair", vec![x2, p2, x, p, q]),
+        }
+    }
+
+    pub fn new_line(&mut self, n: usize, unit: f64, lists: [Vec<f64>; 3], par: Params) -> Made<u8> {
+        let (name, lists) = self.new_lists(n, unit, lists);
+        let lists: Vec<String> = lists.iter().map(|list| self.list(list, Fault::None)).collect();
+        self.tell(format!("{name} {n} {}{}", lists.join(" "), params(par)))
     }
 
     pub fn open_prediction(&mut self) -> Made<u8> {
@@ -172,29 +237,32 @@ impl Maker {
         }
     }
 
-    /// How many measurements: any number, or the one that this close was least often accepted with, so that a short script meets them all.
+    /// How many measurements: any number, or for the solo filter mostly the one that this close was least often accepted with.
     pub fn measurements(&mut self, average: Average) -> usize {
-        let any = 1 + self.random.below(4);
-        if self.random.chance(50) {
-            return any;
+        if self.on.is_some() {
+            return 1 + self.random.below(4);
         }
-        let met = |m: &usize| count_with(&self.reader.table, close_of(average), 0, &format!("n={} m={m}", self.n()));
-        (1..=4).min_by_key(met).unwrap_or(any)
+        let met = |m: usize| count_with(&self.reader.table, close_of(average), 0, &format!("n={} m={m}", self.n()));
+        1 + self.rare(&[1, 2, 3, 4].map(met))
     }
 
-    /// Which close a correction is aimed at: as often as not the flat one, but seldom where it is refused for a turn.
+    /// Which close a correction is aimed at: seldom the flat one where it is refused for a turn, else mostly the one less met.
     pub fn average(&mut self) -> Average {
-        let flat = if self.turns() { 15 } else { 50 };
-        if self.random.chance(flat) {
-            Average::Flat
-        } else {
-            Average::Weighted
+        let averages = [Average::Weighted, Average::Flat];
+        if self.turns() {
+            return averages[usize::from(self.random.chance(15))];
         }
+        let n = self.n();
+        let met = averages.map(close_of).map(|call| match self.on {
+            Some(_) => self.met(self.on, call, &[0]),
+            None => (1..=4).map(|m| count_with(&self.reader.table, call, 0, &format!("n={n} m={m}"))).sum(),
+        });
+        averages[self.rare(&met)]
     }
 
     /// Whether some state is a turn.
     fn turns(&self) -> bool {
-        self.reader.filter.kinds.iter().any(|kind| kind.half().is_some())
+        self.filter().kinds.iter().any(|kind| kind.half().is_some())
     }
 
     /// Four KINDs, these first.

@@ -1,6 +1,8 @@
 //! Filters led to each refusal that a step gives: 7, 8, and 9 in every listed step result, of the weighted close and of the flat one.
 
+use oracle::coverage::count;
 use oracle::kinds::Kind;
+use oracle::script::named;
 use oracle::steps::{Average, Params, Weights};
 
 use crate::maker::{params, Fault, Made, Maker};
@@ -14,18 +16,17 @@ const PLAIN: [Kind; 4] = [Kind::Plain; 4];
 
 impl Maker {
     pub fn overflow(&mut self, n: usize) -> Made<()> {
+        let aim = self.aim();
+        // One state has no entry below the diagonal.
+        let n = if aim == 23 { n.max(2) } else { n };
         // These weigh exactly (N is a power of two), so that means of equal points are those points.
         let exact = Params { alpha: 1.0, beta: 0.0, kappa: self.random.pick(&[8.0, 16.0]) - n as f64 };
-        let x = self.random.vector(n, 1.0);
-        let p = diagonal(n, 4.0);
-        if self.new_line(n, &x, &p, &diagonal(n, 1.0), exact)? != 0 {
+        let lists = [self.random.vector(n, 1.0), diagonal(n, 4.0), diagonal(n, 1.0)];
+        if self.new_line(n, 1.0, lists, exact)? != 0 {
             return Ok(()); // too long a line
         }
-        // Every step in turn, those of a correction once for each average.
-        let aim = (self.aims % 27) as usize;
-        self.aims += 1;
         let (average, m) = ([Average::Weighted, Average::Flat][aim % 2], 1 + self.random.below(4));
-        if average == Average::Flat && self.random.chance(15) {
+        if average == Average::Flat && self.random.chance(5) {
             // Refused for its kind before any step is taken.
             let i = self.random.below(n);
             self.say(format!("setkind {i} t 4066800000000000"))?;
@@ -59,6 +60,22 @@ impl Maker {
             self.say("abandon")?;
         }
         Ok(())
+    }
+
+    /// The solo filter meets every step in turn, those of a correction once for each average.
+    /// On pairs fewer come: mostly one of the call that least often stopped so.
+    fn aim(&mut self) -> usize {
+        if self.on.is_none() {
+            self.aims += 1;
+            return (self.aims % 27) as usize;
+        }
+        let ways = [("closec", 9, 0), ("closef", 9, 1), ("closec", 8, 8), ("closef", 8, 9), ("openp", 9, 23), ("closep", 9, 25)];
+        let met = ways.map(|(call, number, _)| count(&self.reader.table, &named(self.on, call), number));
+        match ways[self.rare(&met)] {
+            (_, 9, first @ 0..=1) => first + 2 * self.random.below(11),
+            (_, 9, first) => first + self.random.below(2),
+            (_, _, only) => only,
+        }
     }
 
     fn set_p(&mut self, p: &[f64]) -> Made<u8> {
@@ -116,7 +133,7 @@ impl Maker {
     fn entry_overflows(&mut self, a: &mut [f64], d: usize) {
         let column = self.random.below(d.max(2) - 1);
         let other = self.random.below(d);
-        if self.random.chance(50) && other != column {
+        if self.random.chance(30) && other != column {
             a[other * d + other] = -1.0;
         }
         if column + 1 < d {
@@ -129,12 +146,15 @@ impl Maker {
         let n = self.n();
         let mut x = self.random.vector(n, 1.0);
         let at = self.random.below(n);
-        x[at] = self.random.sign() * self.random.pick(&[MAX, 1.5e308]);
+        // From the last double a small step is enough.
+        let (far, variance, alpha) =
+            self.random.pick(&[(MAX, 1.0e308, 1.0e154), (MAX, 1.0e300, 1.0e150), (MAX, 1.0e300, 1.0e154), (1.5e308, 1.0e308, 1.0e154)]);
+        x[at] = self.random.sign() * far;
         self.set_x(&x)?;
         let mut p = diagonal(n, 1.0);
-        p[at * n + at] = self.random.pick(&[1.0e308, 1.0e300]);
+        p[at * n + at] = variance;
         self.set_p(&p)?;
-        let par = Params { alpha: self.random.pick(&[1.0e154, 1.0e150]), beta: 0.0, kappa: 1.0 - n as f64 };
+        let par = Params { alpha, beta: 0.0, kappa: 1.0 - n as f64 };
         self.say(format!("setpar{}", params(par)))?;
         self.open_both()
     }
@@ -146,7 +166,7 @@ impl Maker {
             self.say(format!("setkind {i} t 4066800000000000"))?;
         }
         self.open_prediction()?;
-        let mut moved = self.reader.filter.drawn_points.clone();
+        let mut moved = self.filter().drawn_points.clone();
         moved[i] = 1.2e308;
         moved[n + i] = -1.2e308;
         self.close_prediction(&moved)?;
@@ -155,7 +175,7 @@ impl Maker {
 
     fn prediction_spread(&mut self) -> Made<()> {
         self.open_prediction()?;
-        let mut moved = self.reader.filter.drawn_points.clone();
+        let mut moved = self.filter().drawn_points.clone();
         let at = self.random.below(moved.len());
         moved[at] = self.about(1.0e200);
         self.close_prediction(&moved)?;
@@ -289,7 +309,7 @@ impl Maker {
         self.set_p(&diagonal(n, p))?;
         let (observed, j) = self.opposite(m, seen)?;
         let mut r = diagonal(m, 1.0);
-        r[j * m + j] = -2.0 * self.reader.filter.drawn_weights[1] * seen * seen * (1.0 - power(-50));
+        r[j * m + j] = -2.0 * self.filter().drawn_weights[1] * seen * seen * (1.0 - power(-50));
         Ok((observed, r))
     }
 
@@ -375,7 +395,7 @@ impl Maker {
         let mut observed = self.opened_correction(m)?;
         let (i, j) = (self.random.below(n), self.random.below(m));
         for k in 0..2 * n + 1 {
-            observed[k * m + j] = self.reader.filter.drawn_points.get(k * n + i).copied().unwrap_or(0.0) * 1.0e-10;
+            observed[k * m + j] = self.filter().drawn_points.get(k * n + i).copied().unwrap_or(0.0) * 1.0e-10;
         }
         let mut z = vec![0.0; m];
         z[j] = self.about(1.0e300);

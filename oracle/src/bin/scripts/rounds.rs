@@ -1,21 +1,31 @@
-//! Episodes as a user would have them: a new filter, then predictions and corrections with other calls between.
+//! Episodes as a user would have them: a new filter or a new pair, then predictions and corrections with other calls between.
 
-use oracle::filter::list_length;
+use oracle::filter::{list_length, Open};
 use oracle::kinds::Kind;
+use oracle::script::SETTERS;
 use oracle::steps::{Average, Weights};
 
 use crate::maker::{kind, params, Fault, Made, Maker};
 
 impl Maker {
-    pub fn episode(&mut self, n: usize) -> Made<()> {
+    pub fn episode(&mut self, n: usize, turns: bool) -> Made<()> {
         let unit = self.unit();
-        self.fresh(n, unit)?;
+        self.fresh(n, unit, turns)?;
         for _ in 0..self.random.between(4, 14) {
-            match self.random.below(20) {
+            self.turn();
+            if !self.shut() {
+                // Left open on this side.
+                self.end(unit)?;
+                continue;
+            }
+            match self.random.below(if self.on.is_some() { 26 } else { 20 }) {
                 0..=5 => self.prediction(unit)?,
                 6 => {
                     // Tuned between a prediction and a fix.
                     self.prediction(unit)?;
+                    if self.random.chance(50) {
+                        self.refused_setter()?;
+                    }
                     self.setter(unit)?;
                     self.correction(unit)?;
                 }
@@ -30,13 +40,14 @@ impl Maker {
                 16 => self.value()?,
                 17 => self.stray()?,
                 18 => self.refused_setter()?,
-                _ => {
+                19 => {
                     if self.random.chance(30) {
                         self.bad()?
                     } else {
                         self.say("dump")?;
                     }
                 }
+                _ => self.tuned_pair(unit)?,
             }
         }
         Ok(())
@@ -53,13 +64,14 @@ impl Maker {
         power(exponent)
     }
 
-    /// A new filter with some kinds set.
-    pub fn fresh(&mut self, n: usize, unit: f64) -> Made<()> {
-        let (x, p, q) = (self.random.vector(n, unit), self.random.covariance(n, unit), self.random.noise(n, unit));
+    /// A new filter or pair, at times with turns among its kinds.
+    pub fn fresh(&mut self, n: usize, unit: f64, turns: bool) -> Made<()> {
+        let lists = [self.random.vector(n, unit), self.random.covariance(n, unit), self.random.noise(n, unit)];
         let par = self.random.params(n);
-        if self.new_line(n, &x, &p, &q, par)? == 0 && self.random.chance(50) {
+        if self.new_line(n, unit, lists, par)? == 0 && turns {
             for i in 0..n {
                 if self.random.chance(40) {
+                    self.turn();
                     let h = self.random.half_turn(unit);
                     self.say(format!("setkind {i} {}", kind(Kind::Turn(h))))?;
                 }
@@ -109,7 +121,7 @@ impl Maker {
             out[at] = self.random.least();
         }
         if self.random.chance(70) {
-            for (number, kind) in out.iter_mut().zip(self.reader.filter.kinds.iter().cycle()) {
+            for (number, kind) in out.iter_mut().zip(self.filter().kinds.iter().cycle()) {
                 *number = kind.fixed(*number);
             }
         }
@@ -163,9 +175,22 @@ impl Maker {
             return self.mended(unit);
         }
         self.meanwhile(unit)?;
-        let drawn = self.reader.filter.drawn_points.clone();
+        self.end(unit)
+    }
+
+    /// Ends what is open, if it still is.
+    pub fn end(&mut self, unit: f64) -> Made<()> {
+        match self.filter().open {
+            Open::Nothing => Ok(()),
+            Open::Prediction => self.end_prediction(unit),
+            Open::Correction => self.end_correction(unit),
+        }
+    }
+
+    fn end_prediction(&mut self, unit: f64) -> Made<()> {
+        let drawn = self.filter().drawn_points.clone();
         let propagated = self.moved(&drawn, unit);
-        if self.random.chance(15) {
+        if self.random.chance(20) {
             self.faulty_close_prediction(&propagated)?;
         }
         if self.random.chance(7) {
@@ -179,7 +204,7 @@ impl Maker {
             }
             return self.abandoned();
         }
-        if self.random.chance(20) {
+        if self.random.chance(if self.on.is_some() { 35 } else { 20 }) {
             self.reading()?;
         }
         Ok(())
@@ -191,6 +216,10 @@ impl Maker {
             return self.mended(unit);
         }
         self.meanwhile(unit)?;
+        self.end(unit)
+    }
+
+    fn end_correction(&mut self, unit: f64) -> Made<()> {
         let average = self.average();
         let m = self.measurements(average);
         let gauge = match self.random.below(10) {
@@ -203,13 +232,13 @@ impl Maker {
         let turns = if average == Average::Flat { 0 } else { 25 };
         let measured: Vec<Kind> =
             (0..m).map(|_| if self.random.chance(turns) { Kind::Turn(self.random.half_turn(size)) } else { Kind::Plain }).collect();
-        let drawn = self.reader.filter.drawn_points.clone();
+        let drawn = self.filter().drawn_points.clone();
         let mut observed = self.seen(&drawn, m, &measured, unit, gauge);
         if self.random.chance(5) {
             self.zeros(&mut observed, m);
         }
         // A centre that weighs far below zero wants more noise for S to have its pivots; a flat average of wide points for P to keep its own.
-        let [w0c, wi] = self.reader.filter.drawn_weights;
+        let [w0c, wi] = self.filter().drawn_weights;
         let heavy = match average {
             Average::Weighted => w0c.abs().clamp(1.0, 1.0e6).sqrt(),
             Average::Flat => (1.0 / (wi * (2 * self.n() + 1) as f64)).clamp(1.0, 1.0e6),
@@ -221,7 +250,7 @@ impl Maker {
         let z: Vec<f64> = (0..m)
             .map(|j| if self.random.chance(90) { observed[j] + self.random.within(-1.0, 1.0) * size } else { self.random.sized(size) })
             .collect();
-        if self.random.chance(15) {
+        if self.random.chance(20) {
             self.faulty_close_correction(&z, &r, &measured, &observed)?;
         }
         if self.random.chance(5) {
@@ -247,13 +276,14 @@ impl Maker {
     fn mended(&mut self, unit: f64) -> Made<()> {
         self.after_refusal()?;
         let n = self.n();
-        if self.random.chance(20) {
-            return self.fresh(n, unit);
+        if self.on.is_none() && self.random.chance(20) {
+            let turns = self.random.chance(50);
+            return self.fresh(n, unit, turns);
         }
         let p = self.random.covariance(n, unit);
         let line = format!("setp {}", self.list(&p, Fault::None));
         self.say(line)?;
-        if Weights::of(n, self.reader.filter.par).total > 1.0e9 {
+        if Weights::of(n, self.filter().par).total > 1.0e9 {
             let par = self.random.params(n);
             self.say(format!("setpar{}", params(par)))?;
         }
@@ -275,10 +305,13 @@ impl Maker {
 
     /// Calls while another is open: readings pass, the rest waits.
     fn meanwhile(&mut self, unit: f64) -> Made<()> {
-        if self.random.chance(80) {
+        if self.random.chance(if self.on.is_some() { 40 } else { 80 }) {
             return Ok(());
         }
         for _ in 0..self.random.between(1, 3) {
+            if self.random.chance(60) && self.at_the_partner(unit)? {
+                continue;
+            }
             match self.random.below(5) {
                 0..=1 => self.reading()?,
                 2 => self.setter(unit)?,
@@ -292,27 +325,50 @@ impl Maker {
         Ok(())
     }
 
-    /// Sets something to what passes, as far as nothing is open; now and then to what is there already.
+    /// Sets something to what passes, as far as nothing is open; on a pair as often as not on its sheet.
     pub fn setter(&mut self, unit: f64) -> Made<()> {
+        if self.on.is_some() && self.random.chance(50) {
+            return self.change(unit);
+        }
+        let number = match (self.n(), self.shut()) {
+            (0, _) => 1,
+            (_, true) => 0,
+            (_, false) => 3,
+        };
+        let call = self.rare_call(self.setters(), &[number]);
+        self.set(call, unit)
+    }
+
+    /// What a call sets on a filter alone: on a side not what is on the sheet.
+    pub fn setters(&self) -> &'static [&'static str] {
+        if self.on.is_some() {
+            &SETTERS[..2]
+        } else {
+            &SETTERS
+        }
+    }
+
+    /// A setting that passes; now and then to what is there already.
+    pub fn set(&mut self, call: &str, unit: f64) -> Made<()> {
         let (n, again) = (self.n(), self.n() > 0 && self.random.chance(15));
-        let line = match self.random.below(5) {
-            0 => {
-                let x = if again { self.reader.filter.x.clone() } else { self.random.vector(n, unit) };
+        let line = match call {
+            "setx" => {
+                let x = if again { self.filter().x.clone() } else { self.random.vector(n, unit) };
                 format!("setx {}", self.list(&x, Fault::None))
             }
-            1 => {
-                let p = if again { self.reader.filter.p.clone() } else { self.random.covariance(n, unit) };
+            "setp" => {
+                let p = if again { self.filter().p.clone() } else { self.random.covariance(n, unit) };
                 format!("setp {}", self.list(&p, Fault::None))
             }
-            2 => {
-                let q = if again { self.reader.filter.q.clone() } else { self.random.noise(n, unit) };
+            "setq" => {
+                let q = if again { self.filter().q.clone() } else { self.random.noise(n, unit) };
                 format!("setq {}", self.list(&q, Fault::None))
             }
-            3 => format!("setpar{}", params(if again { self.reader.filter.par } else { self.random.params(n) })),
+            "setpar" => format!("setpar{}", params(if again { self.filter().par } else { self.random.params(n) })),
             _ => {
                 let i = self.random.below(n.max(1));
                 let new = if again {
-                    self.reader.filter.kinds[i]
+                    self.filter().kinds[i]
                 } else if self.random.chance(40) {
                     Kind::Plain
                 } else {
@@ -322,22 +378,18 @@ impl Maker {
             }
         };
         self.say(line)?;
-        if self.random.chance(20) {
-            self.say("readstale")?;
-        }
-        Ok(())
+        self.marks()
     }
 
     /// A reading with a buffer that fits, is short, or is longer.
     pub fn reading(&mut self) -> Made<()> {
         let n = self.n();
-        let (name, needed) = match self.random.below(7) {
-            0 => ("readx", n),
-            1 => ("readp", n * n),
-            2 => ("readq", n * n),
-            3..=4 => ("readpts", list_length(n)),
-            5 => return self.say("readpar").map(|_| ()),
-            _ => return self.say("readstale").map(|_| ()),
+        let name = self.rare_call(&["readx", "readp", "readq", "readpts", "readpar", "readstale"], &[0, 1]);
+        let needed = match name {
+            "readx" => n,
+            "readp" | "readq" => n * n,
+            "readpts" => list_length(n),
+            _ => return self.say(name).map(|_| ()),
         };
         let length = if self.random.chance(25) { self.short_length(needed) } else { self.length(needed) };
         self.say(format!("{name} {length}"))?;
