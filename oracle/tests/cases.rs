@@ -1,4 +1,4 @@
-//! Document 01's cases, the flat close and the settings of document 02's A1 and A3 and the example of docs/SCRIPT.md, held to answers written by hand.
+//! Document 01's cases, the flat close, the settings and the pairs of document 02's A1, A3 and A4 and the example of docs/SCRIPT.md, held to answers written by hand.
 
 use oracle::script::Reader;
 
