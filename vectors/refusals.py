@@ -1,4 +1,5 @@
-"""Every refusal of every call that can give it, each held against the next one in the order 3, 1, 2, 4, 5, 10, 6, then 7, 8, 9 as met.
+"""Every refusal of every call that can give it, each held against the next one in the order 3, 1, 2, 4, 5, 10, 6, then 7, 8, 9 as met:
+of the solo filter, of what a pair has beyond it, then once more on a side of a pair, which answers as the solo filter does.
 The answers stand here as they were written by hand from documents 01 and 02; run, it writes them as a script of calls (docs/SCRIPT.md) and its answers:
     refusals.py SCRIPT ANSWERS
 A number with a point, nan, inf or a power 2^K becomes the bits of an f64, [..] a list with its length in front, and bK what place K of a lent buffer holds before a call."""
@@ -7,6 +8,7 @@ import sys
 sys.dont_write_bytecode = True
 from records import word
 
+EMPTY = '0 n 0 x P Q par 0.0 0.0 0.0 kinds w 0.0 0.0 pts stale 1 open - dw 0.0 0.0 dpts'
 BIG = '1.5e308'
 HUGE = '1.0e200'
 MOST = '1.7976931348623157e308'
@@ -30,7 +32,7 @@ CALLS = [
     ('readpts 0', '1 0'),
     ('readpar', '1 0.0 0.0 0.0'),
     ('readstale', '1 1'),
-    ('dump', '0 n 0 x P Q par 0.0 0.0 0.0 kinds w 0.0 0.0 pts stale 1 open - dw 0.0 0.0 dpts'),
+    ('dump', EMPTY),
     '# new: 1 before 2, 2 before 5, 5 before 6; refused it gives the empty filter',
     ('new 0 [] [] [] nan 0.0 0.0', '1'),
     ('new 9 [] [] [] 1.0 0.0 0.0', '1'),
@@ -51,7 +53,7 @@ CALLS = [
     ('new 1 [2.0] [4.0] [1.0] 1.0 0.0 -2.0', '6'),
     ('new 1 [2.0] [4.0] [1.0] 1.0e200 0.0 0.0', '6'),
     ('new 1 [2.0] [4.0] [1.0] 0.0 0.0 0.0', '6'),
-    ('dump', '0 n 0 x P Q par 0.0 0.0 0.0 kinds w 0.0 0.0 pts stale 1 open - dw 0.0 0.0 dpts'),
+    ('dump', EMPTY),
     '# numbers past what is needed are not judged',
     ('new 1 [2.0 nan] [4.0 inf] [1.0 nan] 1.0 0.0 0.0', '0'),
     ('dump', '0 n 1 x 2.0 P 4.0 Q 1.0 par 1.0 0.0 0.0 kinds p w 0.0 0.0 pts 0.0 0.0 0.0 stale 1 open - dw 0.0 0.0 dpts 0.0 0.0 0.0'),
@@ -353,6 +355,179 @@ CALLS = [
     ('closec 1 [8.0] [48.0] p p p p [2.0 6.0 6.0]', '0 x 1.75 P 3.0'),
 ]
 
+# Request A4. Side 1 mostly has x=2, P=4 and draws 2, 4, 0; side 2 has x=6, P=1 and draws 6, 7, 5.
+PAIRS = [
+    '# before the first newpair both sides are empty: sheet changes are 1, whatever they are lent',
+    ('@1 dump', EMPTY),
+    ('@2 dump', EMPTY),
+    ('@1 setq []', '1'),
+    ('@2 setpar nan 0.0 0.0', '1'),
+    ('@1 setkind 7 t nan', '1'),
+    '# newpair: 1 before 2, 2 before 5, 5 before 6, each looked for on both sides before the next',
+    ('newpair 0 [] [] [] [] [] nan 0.0 0.0', '1'),
+    ('newpair 9 [] [] [] [] [] 1.0 0.0 0.0', '1'),
+    ('newpair 18446744073709551615 [] [] [] [] [] 1.0 0.0 0.0', '1'),
+    ('newpair 4294967296 [] [] [] [] [] 1.0 0.0 0.0', '1'),
+    ('newpair 1 [] [nan] [6.0] [1.0] [1.0] 1.0 0.0 0.0', '2'),
+    ('newpair 1 [nan] [] [6.0] [1.0] [1.0] 1.0 0.0 0.0', '2'),
+    ('newpair 1 [nan] [4.0] [] [1.0] [1.0] 1.0 0.0 0.0', '2'),
+    ('newpair 1 [2.0] [inf] [6.0] [] [1.0] 1.0 0.0 0.0', '2'),
+    ('newpair 1 [2.0] [4.0] [6.0] [nan] [] nan 0.0 0.0', '2'),
+    ('newpair 2 [2.0 2.0] [4.0 0.0 0.0 4.0] [6.0 6.0] [1.0 0.0 0.0] [1.0 0.0 0.0 1.0] 1.0 0.0 0.0', '2'),
+    ('newpair 1 [nan] [4.0] [6.0] [1.0] [1.0] 1.0 0.0 -1.0', '5'),
+    ('newpair 1 [2.0] [inf] [6.0] [1.0] [1.0] 1.0 0.0 -1.0', '5'),
+    ('newpair 1 [2.0] [4.0] [-inf] [1.0] [1.0] 1.0 0.0 -1.0', '5'),
+    ('newpair 1 [2.0] [4.0] [6.0] [nan] [1.0] 1.0 0.0 -1.0', '5'),
+    ('newpair 1 [2.0] [4.0] [6.0] [1.0] [inf] 1.0 0.0 -1.0', '5'),
+    ('newpair 1 [2.0] [4.0] [6.0] [1.0] [1.0] inf 0.0 -1.0', '5'),
+    ('newpair 1 [2.0] [4.0] [6.0] [1.0] [1.0] 0.0 nan 0.0', '5'),
+    ('newpair 1 [2.0] [4.0] [6.0] [1.0] [1.0] 1.0 0.0 nan', '5'),
+    ('newpair 1 [2.0] [4.0] [6.0] [1.0] [1.0] 1.0 0.0 -1.0', '6'),
+    ('newpair 1 [2.0] [4.0] [6.0] [1.0] [1.0] 1.0e200 0.0 0.0', '6'),
+    '# a pair; numbers past what is needed are not judged. Refused, newpair gives the empty pair',
+    ('newpair 1 [2.0 nan] [4.0 inf] [6.0 nan] [1.0 -inf] [1.0 nan] 1.0 0.0 0.0', '0'),
+    ('@1 dump', '0 n 1 x 2.0 P 4.0 Q 1.0 par 1.0 0.0 0.0 kinds p w 0.0 0.0 pts 0.0 0.0 0.0 stale 1 open - dw 0.0 0.0 dpts 0.0 0.0 0.0'),
+    ('@2 dump', '0 n 1 x 6.0 P 1.0 Q 1.0 par 1.0 0.0 0.0 kinds p w 0.0 0.0 pts 0.0 0.0 0.0 stale 1 open - dw 0.0 0.0 dpts 0.0 0.0 0.0'),
+    ('newpair 1 [2.0] [4.0] [6.0] [1.0] [1.0] 0.0 0.0 0.0', '6'),
+    ('@1 dump', EMPTY),
+    ('@2 dump', EMPTY),
+    ('newpair 1 [2.0] [4.0] [6.0] [1.0] [1.0] 1.0 0.0 0.0', '0'),
+    '# sheet changes with nothing open: 2, 5; 5 before 6, 6; 1 before 5, 5 before 6. Through either side they mark and change nobody',
+    ('@1 openp 3', '0 3 2.0 4.0 0.0'),
+    ('@1 closep [2.0 4.0 0.0]', '0 x 2.0 P 5.0'),
+    ('@2 openp 3', '0 3 6.0 7.0 5.0'),
+    ('@2 closep [6.0 7.0 5.0]', '0 x 6.0 P 2.0'),
+    ('@1 setq []', '2'),
+    ('@2 setq []', '2'),
+    ('@1 setq [nan]', '5'),
+    ('@2 setq [inf]', '5'),
+    ('@1 setpar nan 0.0 -1.0', '5'),
+    ('@2 setpar 1.0 inf -1.0', '5'),
+    ('@1 setpar 1.0 0.0 -1.0', '6'),
+    ('@2 setpar 1.0 0.0 -1.0', '6'),
+    ('@1 setkind 1 t nan', '1'),
+    ('@2 setkind 7 t nan', '1'),
+    ('@1 setkind 0 t nan', '5'),
+    ('@2 setkind 0 t -inf', '5'),
+    ('@1 setkind 0 t 0.0', '6'),
+    ('@2 setkind 0 t -1.0', '6'),
+    ('@1 dump', '0 n 1 x 2.0 P 5.0 Q 1.0 par 1.0 0.0 0.0 kinds p w 0.0 0.5 pts 2.0 4.0 0.0 stale 0 open - dw 0.0 0.0 dpts 0.0 0.0 0.0'),
+    ('@2 dump', '0 n 1 x 6.0 P 2.0 Q 1.0 par 1.0 0.0 0.0 kinds p w 0.0 0.5 pts 6.0 7.0 5.0 stale 0 open - dw 0.0 0.0 dpts 0.0 0.0 0.0'),
+    '# Q, through either side, holds for both and marks neither',
+    ('@1 setq [7.0]', '0'),
+    ('@2 readq 1', '0 1 7.0'),
+    ('@2 setq [1.0]', '0'),
+    ('@1 readq 1', '0 1 1.0'),
+    ('@1 readstale', '0 0'),
+    ('@2 readstale', '0 0'),
+    '# parameters and a kind hold for both and mark both, the same ones too; x and P are a side\'s own, and mark it alone',
+    ('@1 setpar 1.0 0.0 0.0', '0'),
+    ('@1 readstale', '0 1'),
+    ('@2 readstale', '0 1'),
+    ('@1 setp [4.0]', '0'),
+    ('@1 openp 3', '0 3 2.0 4.0 0.0'),
+    ('@1 closep [2.0 4.0 0.0]', '0 x 2.0 P 5.0'),
+    ('@2 setp [1.0]', '0'),
+    ('@1 readstale', '0 0'),
+    ('@2 openp 3', '0 3 6.0 7.0 5.0'),
+    ('@2 closep [6.0 7.0 5.0]', '0 x 6.0 P 2.0'),
+    ('@1 setx [2.0]', '0'),
+    ('@1 readstale', '0 1'),
+    ('@2 readpts 3', '0 3 6.0 7.0 5.0'),
+    ('@2 setkind 0 t 180.0', '0'),
+    ('@2 readpts 3', '4 3 b0 b1 b2'),
+    ('@1 dump', '0 n 1 x 2.0 P 5.0 Q 1.0 par 1.0 0.0 0.0 kinds t 180.0 w 0.0 0.5 pts 2.0 4.0 0.0 stale 1 open - dw 0.0 0.0 dpts 0.0 0.0 0.0'),
+    ('@1 setkind 0 p', '0'),
+    '# a prediction open on side 1: 3 for a change through side 2, before 1, 2, 5 and 6, and where nothing else is wrong',
+    ('@1 setp [4.0]', '0'),
+    ('@1 openp 3', '0 3 2.0 4.0 0.0'),
+    ('@2 setq []', '3'),
+    ('@2 setq [nan]', '3'),
+    ('@2 setq [1.0]', '3'),
+    ('@2 setpar nan 0.0 0.0', '3'),
+    ('@2 setpar 1.0 0.0 -1.0', '3'),
+    ('@2 setpar 1.0 0.0 0.0', '3'),
+    ('@2 setkind 7 t nan', '3'),
+    ('@2 setkind 0 t nan', '3'),
+    ('@2 setkind 0 t 0.0', '3'),
+    ('@2 setkind 0 p', '3'),
+    '# and through side 1 itself',
+    ('@1 setq []', '3'),
+    ('@1 setpar nan 0.0 0.0', '3'),
+    ('@1 setkind 7 t nan', '3'),
+    '# every other call of side 2 gives what it would give alone',
+    ('@2 setx []', '2'),
+    ('@2 setx [nan]', '5'),
+    ('@2 setx [6.0]', '0'),
+    ('@2 setp [1.0]', '0'),
+    ('@2 closep []', '3'),
+    ('@2 closec 9 [] [] p p p p []', '3'),
+    ('@2 closef 9 [] [] []', '3'),
+    ('@2 abandon', '3'),
+    ('@2 readx 1', '0 1 6.0'),
+    ('@2 readpts 3', '4 3 b0 b1 b2'),
+    ('@2 readpar', '0 1.0 0.0 0.0'),
+    ('@2 openp 2', '2 2 b0 b1'),
+    ('@2 openc 3', '0 3 6.0 7.0 5.0'),
+    '# a correction open on side 2 too: 3 through either, and each close looks at its own side',
+    ('@1 setq [1.0]', '3'),
+    ('@2 setq [1.0]', '3'),
+    ('@1 setpar 1.0 0.0 -1.0', '3'),
+    ('@2 setkind 7 t nan', '3'),
+    ('@1 closef 1 [14.0] [10.0] [6.0 9.0 3.0]', '3'),
+    ('@2 closep [6.0 7.0 5.0]', '3'),
+    ('@1 setx [2.0]', '3'),
+    ('@2 setp [1.0]', '3'),
+    ('@1 dump', '0 n 1 x 2.0 P 4.0 Q 1.0 par 1.0 0.0 0.0 kinds p w 0.0 0.5 pts 2.0 4.0 0.0 stale 1 open p dw 0.0 0.5 dpts 2.0 4.0 0.0'),
+    ('@2 dump', '0 n 1 x 6.0 P 1.0 Q 1.0 par 1.0 0.0 0.0 kinds p w 0.0 0.5 pts 6.0 7.0 5.0 stale 1 open c dw 0.0 0.5 dpts 6.0 7.0 5.0'),
+    '# side 1 abandoned, the correction of side 2 alone makes the sheet wait',
+    ('@1 abandon', '0'),
+    ('@1 setq []', '3'),
+    ('@1 setpar 1.0 0.0 -1.0', '3'),
+    ('@1 setkind 7 t nan', '3'),
+    ('@1 setkind 0 p', '3'),
+    ('@2 setpar 1.0 0.0 0.0', '3'),
+    ('@1 setx [2.0]', '0'),
+    '# its flat close: z mean = 6, S = (9 + 9)/3 + 10 = 16, C = (1*3 + (-1)*(-3))/3 = 2, K = 2/16, y = 8, x = 6 + 1, P = 1 - 2*0.125. Then the sheet is free',
+    ('@2 closef 1 [14.0] [10.0] [6.0 9.0 3.0]', '0 x 7.0 P 0.75'),
+    ('@1 setq [1.0]', '0'),
+    ('@2 setkind 0 p', '0'),
+    '# no call: a side alone, no side, a side with what is no call on a filter; a list too few',
+    ('@1', 'bad'),
+    ('@', 'bad'),
+    ('@3 dump', 'bad'),
+    ('@1dump', 'bad'),
+    ('@1 @1 dump', 'bad'),
+    ('@2 root 4.0', 'bad'),
+    ('@1 wrap 1.0 180.0', 'bad'),
+    ('@2 point 1 0 [2.0 4.0 0.0]', 'bad'),
+    ('@1 new 1 [2.0] [4.0] [1.0] 1.0 0.0 0.0', 'bad'),
+    ('@2 newpair 1 [2.0] [4.0] [6.0] [1.0] [1.0] 1.0 0.0 0.0', 'bad'),
+    ('newpair 1 [2.0] [4.0] [6.0] [1.0] 1.0 0.0 0.0', 'bad'),
+    ('@1 dump', '0 n 1 x 2.0 P 4.0 Q 1.0 par 1.0 0.0 0.0 kinds p w 0.0 0.5 pts 2.0 4.0 0.0 stale 1 open - dw 0.0 0.0 dpts 0.0 0.0 0.0'),
+    ('@2 dump', '0 n 1 x 7.0 P 0.75 Q 1.0 par 1.0 0.0 0.0 kinds p w 0.0 0.5 pts 6.0 7.0 5.0 stale 1 open - dw 0.0 0.0 dpts 0.0 0.0 0.0'),
+]
+
+
+def on_side_two(calls):
+    """The calls on a filter as calls on side 2; New is lent an x and a P for side 1 besides. Calls on values and comments are left out."""
+    for line, answer in (call for call in calls if not isinstance(call, str)):
+        name, _, rest = line.partition(' ')
+        if name == 'new':
+            n, _, lists = rest.partition(' ')
+            yield f'newpair {n} [5.0 5.0] [1.0 0.0 0.0 1.0] {lists}', answer
+        elif name not in ('point', 'wrap', 'root'):
+            yield '@2 ' + line, answer
+
+
+SIDE = [
+    '# all calls of the solo filter above once more on side 2 of a pair whose side 1 has nothing open, from the empty pair on; the answers are the same',
+    ('newpair 0 [] [] [] [] [] 1.0 0.0 0.0', '1'),
+    *on_side_two(CALLS),
+    '# of all that side 1 has the sheet and its marks',
+    ('@1 dump', '0 n 1 x 5.0 P 1.0 Q 1.0 par 1.0 1.0 0.0 kinds t 2.0 w 0.0 0.0 pts 0.0 0.0 0.0 stale 1 open - dw 0.0 0.0 dpts 0.0 0.0 0.0'),
+]
+
 
 def token(t):
     if t[0] == 'b' and t[1:].isdigit():
@@ -381,7 +556,7 @@ def written(line):
 
 if __name__ == '__main__':
     with open(sys.argv[1], 'w') as script, open(sys.argv[2], 'w') as answers:
-        for call in CALLS:
+        for call in CALLS + PAIRS + SIDE:
             if isinstance(call, str):
                 script.write(call + '\n')
             else:
