@@ -1,7 +1,7 @@
 #!/usr/bin/env python3
 """damaged.py COMMAND SCRIPT [ROUNDS] [SEED]: damages a script and holds the command that replays it to one answer for each call line.
 
-Each round takes a run of the script's lines and flips bytes, cuts, joins, doubles or lengthens lines, or drops the last newline. The command has to end
+Each round takes a run of the script's lines and flips bytes, cuts, joins, doubles or lengthens lines, puts a side before them, or drops the last newline. The command has to end
 with status 0 and write one line for each line that holds a token, comment stripped, or is longer than 16,384 bytes. Prints how many rounds and lines that were.
 """
 import random
@@ -31,7 +31,7 @@ def replace(lines, rng):
     i = rng.randrange(len(lines))
     line = bytearray(lines[i])
     if line:
-        line[rng.randrange(len(line))] = rng.choice(b' \t\r#\n\0pt0fF9x\xff')
+        line[rng.randrange(len(line))] = rng.choice(b' \t\r#\n\0pt0fF9x@\xff')
     lines[i] = bytes(line)
 
 
@@ -58,7 +58,13 @@ def lengthen(lines, rng):
     lines[i] = (lines[i] + rng.choice([b' ', b'\t', b'0', b'#', b' # '])).ljust(length, rng.choice([b' ', b'0', b'x']))
 
 
-DAMAGES = [flip, flip, flip, replace, replace, cut, cut, join, double, lengthen]
+def address(lines, rng):
+    """A side before a line, whatever it is: a call of another filter, a side already, a call that no side takes, a comment."""
+    i = rng.randrange(len(lines))
+    lines[i] = rng.choice([b'@1 ', b'@2 ', b'@1', b'@', b'@3 ', b'@1 @2 ']) + lines[i]
+
+
+DAMAGES = [flip, flip, flip, replace, replace, cut, cut, join, double, lengthen, address]
 
 
 def main():
