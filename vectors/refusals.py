@@ -492,6 +492,11 @@ PAIRS = [
     ('@2 closef 1 [14.0] [10.0] [6.0 9.0 3.0]', '0 x 7.0 P 0.75'),
     ('@1 setq [1.0]', '0'),
     ('@2 setkind 0 p', '0'),
+    '# the solo filter stands beside the pair: neither its New, taken or refused, nor its calls touch a side',
+    ('new 0 [] [] [] 1.0 0.0 0.0', '1'),
+    ('new 1 [3.0] [4.0] [8.0] 1.0 2.0 1.0', '0'),
+    ('openp 0', '2 0'),
+    ('setkind 0 t 180.0', '0'),
     '# no call: a side alone, no side, a side with what is no call on a filter; a list too few',
     ('@1', 'bad'),
     ('@', 'bad'),
@@ -524,8 +529,9 @@ SIDE = [
     '# all calls of the solo filter above once more on side 2 of a pair whose side 1 has nothing open, from the empty pair on; the answers are the same',
     ('newpair 0 [] [] [] [] [] 1.0 0.0 0.0', '1'),
     *on_side_two(CALLS),
-    '# of all that side 1 has the sheet and its marks',
+    '# of all that side 1 has the sheet and its marks, the solo filter nothing',
     ('@1 dump', '0 n 1 x 5.0 P 1.0 Q 1.0 par 1.0 1.0 0.0 kinds t 2.0 w 0.0 0.0 pts 0.0 0.0 0.0 stale 1 open - dw 0.0 0.0 dpts 0.0 0.0 0.0'),
+    ('dump', '0 n 1 x 3.0 P 4.0 Q 8.0 par 1.0 2.0 1.0 kinds t 180.0 w 0.0 0.0 pts 0.0 0.0 0.0 stale 1 open - dw 0.0 0.0 dpts 0.0 0.0 0.0'),
 ]
 
 
