@@ -1,27 +1,30 @@
-// The answers, line by line, put after the bytes of out that are used. Each hands back how many are used then, and the filter where the call has one.
+// The answers, line by line, put after the bytes of out that are used. Each hands back how many are used then, and what is held where the call is on it.
 ghost use mathlib.Core.Path.{_≡_};
 ghost use mathlib.Core.Bool.{_&&_, cond};
 ghost use Prim.Native.Nat.{_*_};
 ghost use lib.Dec.{leb};
+use crate::held;
+use crate::held::Done;
+use crate::held::Held;
+use crate::held::Whose;
 use angles::Kind;
 use angles::Residual;
-use filter::Answer;
 use filter::Filter;
 use filter::Stage;
 use sigma::Params;
 
-// The current filter, and how many bytes of answers wait.
+// What is held, and how many bytes of answers wait.
 pub struct Turn {
-    pub filter: Filter,
+    pub held: Held,
     pub used: usize,
 }
 
 // A line that is no call: it changes nothing.
-pub fn bad(filter: Filter, out: &mut [u8], used: usize) -> Turn
-    ensures { λ r. ⌜ r .filter ≡ filter ⌝ }
+pub fn bad(held: Held, out: &mut [u8], used: usize) -> Turn
+    ensures { λ r. ⌜ r .held ≡ held ⌝ }
 {
     Turn {
-        filter,
+        held,
         used: script::put(out, used, b"bad\n"),
     }
 }
@@ -31,28 +34,28 @@ fn put_refusal(out: &mut [u8], used: usize, r: u8) -> usize {
 }
 
 // A refusal, or 0, alone.
-pub fn number(a: Answer, out: &mut [u8], used: usize) -> Turn
-    ensures { λ r. ⌜ r .filter ≡ a .filter ⌝ }
+pub fn number(a: Done, out: &mut [u8], used: usize) -> Turn
+    ensures { λ r. ⌜ r .held ≡ a .held ⌝ }
 {
     let at = put_refusal(out, used, a.refusal);
-    let filter = a.filter;
+    let held = a.held;
     Turn {
-        filter,
+        held,
         used: script::put(out, at, b"\n"),
     }
 }
 
 // A refusal, or 0, and all of a lent buffer.
-pub fn buffer(a: Answer, lent: &[f64], out: &mut [u8], used: usize) -> Turn
-    ensures { λ r. ⌜ r .filter ≡ a .filter ⌝ }
+pub fn buffer(a: Done, lent: &[f64], out: &mut [u8], used: usize) -> Turn
+    ensures { λ r. ⌜ r .held ≡ a .held ⌝ }
 {
     let at = put_refusal(out, used, a.refusal);
     let at = script::put(out, at, b" ");
     let at = script::put_decimal(out, at, lent.len() as u64);
     let at = script::put_numbers(out, at, lent, lent.len());
-    let filter = a.filter;
+    let held = a.held;
     Turn {
-        filter,
+        held,
         used: script::put(out, at, b"\n"),
     }
 }
@@ -99,20 +102,21 @@ fn put_points(out: &mut [u8], used: usize, label: &[u8], points: &[f64; 136], n:
 }
 
 // A close: a refusal, or 0 with x and P.
-pub fn close(a: Answer, out: &mut [u8], used: usize) -> Turn
-    ensures { λ r. ⌜ r .filter ≡ a .filter ⌝ }
+pub fn close(a: Done, whose: Whose, out: &mut [u8], used: usize) -> Turn
+    ensures { λ r. ⌜ r .held ≡ a .held ⌝ }
 {
     if a.refusal != 0 {
         return number(a, out, used);
     }
-    let filter = a.filter;
+    let held = a.held;
+    let filter = held::shown(held, whose);
     let n = filter.sheet.n;
     let x = filter.track.x;
     let p = filter.track.p;
     let at = put_states(out, used, b"0 x", &x, n);
     let at = put_matrix(out, at, b" P", &p, n);
     Turn {
-        filter,
+        held,
         used: script::put(out, at, b"\n"),
     }
 }
@@ -124,15 +128,15 @@ fn put_params(out: &mut [u8], used: usize, params: Params) -> usize {
 }
 
 // A refusal, or 0, and the parameters.
-pub fn params(filter: Filter, out: &mut [u8], used: usize) -> Turn
-    ensures { λ r. ⌜ r .filter ≡ filter ⌝ }
+pub fn params(held: Held, whose: Whose, out: &mut [u8], used: usize) -> Turn
+    ensures { λ r. ⌜ r .held ≡ held ⌝ }
 {
-    let read = filter.read_params();
+    let read = held::read_params(held, whose);
     let at = put_refusal(out, used, read.refusal);
     let given = read.params;
     let at = put_params(out, at, given);
     Turn {
-        filter,
+        held,
         used: script::put(out, at, b"\n"),
     }
 }
@@ -145,14 +149,14 @@ fn put_bit(out: &mut [u8], used: usize, b: bool) -> usize {
 }
 
 // A refusal, or 0, and the stale mark.
-pub fn stale(filter: Filter, out: &mut [u8], used: usize) -> Turn
-    ensures { λ r. ⌜ r .filter ≡ filter ⌝ }
+pub fn stale(held: Held, whose: Whose, out: &mut [u8], used: usize) -> Turn
+    ensures { λ r. ⌜ r .held ≡ held ⌝ }
 {
-    let read = filter.read_stale();
+    let read = held::read_stale(held, whose);
     let at = put_refusal(out, used, read.refusal);
     let at = put_bit(out, at, read.stale);
     Turn {
-        filter,
+        held,
         used: script::put(out, at, b"\n"),
     }
 }
@@ -255,15 +259,16 @@ fn put_drawn(out: &mut [u8], used: usize, filter: Filter) -> usize {
 }
 
 // All of a filter, the used places only.
-pub fn dump(filter: Filter, out: &mut [u8], used: usize) -> Turn
-    ensures { λ r. ⌜ r .filter ≡ filter ⌝ }
+pub fn dump(held: Held, whose: Whose, out: &mut [u8], used: usize) -> Turn
+    ensures { λ r. ⌜ r .held ≡ held ⌝ }
 {
+    let filter = held::shown(held, whose);
     let at = put_values(out, used, filter);
     let at = put_settings(out, at, filter);
     let at = put_current(out, at, filter);
     let at = put_drawn(out, at, filter);
     Turn {
-        filter,
+        held,
         used: script::put(out, at, b"\n"),
     }
 }

@@ -1,10 +1,14 @@
 // The calls: each is read whole from its line, tokens after the name, then run; a line that is no call in this form is answered `bad` and changes nothing.
 use crate::answers;
 use crate::answers::Turn;
+use crate::held;
+use crate::held::Held;
+use crate::held::Whose;
 use angles::Kind;
-use filter::Answer;
 use filter::Filter;
 use filter::point;
+use pairs::Pair;
+use pairs::Side;
 use root::Root;
 use script::KindRead;
 use script::ListRead;
@@ -34,130 +38,165 @@ fn params_at(s: &[u8], at: usize) -> ParamsAt {
 }
 
 // new n LIST(x) LIST(P) LIST(Q) alpha beta kappa
-fn new(filter: Filter, s: &[u8], at: usize, out: &mut [u8], used: usize) -> Turn {
+fn new(held: Held, s: &[u8], at: usize, out: &mut [u8], used: usize) -> Turn {
     let mut x = [0.0f64; 512];
     let mut p = [0.0f64; 512];
     let mut q = [0.0f64; 512];
     let SizeRead::Size { value: n, next } = script::size_at(s, at) else {
-        return answers::bad(filter, out, used);
+        return answers::bad(held, out, used);
     };
     let ListRead::Numbers { len: of_x, next } = script::list_at(s, next, &mut x) else {
-        return answers::bad(filter, out, used);
+        return answers::bad(held, out, used);
     };
     let ListRead::Numbers { len: of_p, next } = script::list_at(s, next, &mut p) else {
-        return answers::bad(filter, out, used);
+        return answers::bad(held, out, used);
     };
     let ListRead::Numbers { len: of_q, next } = script::list_at(s, next, &mut q) else {
-        return answers::bad(filter, out, used);
+        return answers::bad(held, out, used);
     };
     let ParamsAt::Three { params, next } = params_at(s, next) else {
-        return answers::bad(filter, out, used);
+        return answers::bad(held, out, used);
     };
     if !script::no_token(s, next) {
-        return answers::bad(filter, out, used);
+        return answers::bad(held, out, used);
     }
     let x = script::front(&x, of_x);
     let p = script::front(&p, of_p);
     let q = script::front(&q, of_q);
-    answers::number(Filter::new(n as usize, x, p, q, params), out, used)
+    let made = held::alone(held, Filter::new(n as usize, x, p, q, params));
+    answers::number(made, out, used)
 }
 
-// What a setter does that is lent a list.
-fn with_list(name: Name, filter: Filter, list: &[f64]) -> Answer {
-    match name {
-        Name::SetX => filter.set_x(list),
-        Name::SetP => filter.set_p(list),
-        _ => filter.set_q(list),
+// newpair n LIST(x1) LIST(P1) LIST(x2) LIST(P2) LIST(Q) alpha beta kappa
+fn new_pair(held: Held, s: &[u8], at: usize, out: &mut [u8], used: usize) -> Turn {
+    let mut x1 = [0.0f64; 512];
+    let mut p1 = [0.0f64; 512];
+    let mut x2 = [0.0f64; 512];
+    let mut p2 = [0.0f64; 512];
+    let mut q = [0.0f64; 512];
+    let SizeRead::Size { value: n, next } = script::size_at(s, at) else {
+        return answers::bad(held, out, used);
+    };
+    let ListRead::Numbers { len: of_x1, next } = script::list_at(s, next, &mut x1) else {
+        return answers::bad(held, out, used);
+    };
+    let ListRead::Numbers { len: of_p1, next } = script::list_at(s, next, &mut p1) else {
+        return answers::bad(held, out, used);
+    };
+    let ListRead::Numbers { len: of_x2, next } = script::list_at(s, next, &mut x2) else {
+        return answers::bad(held, out, used);
+    };
+    let ListRead::Numbers { len: of_p2, next } = script::list_at(s, next, &mut p2) else {
+        return answers::bad(held, out, used);
+    };
+    let ListRead::Numbers { len: of_q, next } = script::list_at(s, next, &mut q) else {
+        return answers::bad(held, out, used);
+    };
+    let ParamsAt::Three { params, next } = params_at(s, next) else {
+        return answers::bad(held, out, used);
+    };
+    if !script::no_token(s, next) {
+        return answers::bad(held, out, used);
     }
+    let x1 = script::front(&x1, of_x1);
+    let p1 = script::front(&p1, of_p1);
+    let x2 = script::front(&x2, of_x2);
+    let p2 = script::front(&p2, of_p2);
+    let q = script::front(&q, of_q);
+    let made = held::paired(held, Pair::new(n as usize, x1, p1, x2, p2, q, params));
+    answers::number(made, out, used)
 }
 
 // setx LIST, setp LIST, setq LIST
-fn set(name: Name, filter: Filter, s: &[u8], at: usize, out: &mut [u8], used: usize) -> Turn {
+fn set(
+    name: Name,
+    held: Held,
+    whose: Whose,
+    s: &[u8],
+    at: usize,
+    out: &mut [u8],
+    used: usize,
+) -> Turn {
     let mut list = [0.0f64; 512];
     let ListRead::Numbers { len, next } = script::list_at(s, at, &mut list) else {
-        return answers::bad(filter, out, used);
+        return answers::bad(held, out, used);
     };
     if !script::no_token(s, next) {
-        return answers::bad(filter, out, used);
+        return answers::bad(held, out, used);
     }
-    answers::number(
-        with_list(name, filter, script::front(&list, len)),
-        out,
-        used,
-    )
+    let done = held::with_list(name, held, whose, script::front(&list, len));
+    answers::number(done, out, used)
 }
 
 // closep LIST
-fn close_prediction(filter: Filter, s: &[u8], at: usize, out: &mut [u8], used: usize) -> Turn {
+fn close_prediction(
+    held: Held,
+    whose: Whose,
+    s: &[u8],
+    at: usize,
+    out: &mut [u8],
+    used: usize,
+) -> Turn {
     let mut list = [0.0f64; 512];
     let ListRead::Numbers { len, next } = script::list_at(s, at, &mut list) else {
-        return answers::bad(filter, out, used);
+        return answers::bad(held, out, used);
     };
     if !script::no_token(s, next) {
-        return answers::bad(filter, out, used);
+        return answers::bad(held, out, used);
     }
-    answers::close(
-        filter.close_prediction(script::front(&list, len)),
-        out,
-        used,
-    )
+    let list = script::front(&list, len);
+    let done = held::with_list(Name::ClosePrediction, held, whose, list);
+    answers::close(done, whose, out, used)
 }
 
 // setpar F F F
-fn set_params(filter: Filter, s: &[u8], at: usize, out: &mut [u8], used: usize) -> Turn {
+fn set_params(held: Held, whose: Whose, s: &[u8], at: usize, out: &mut [u8], used: usize) -> Turn {
     let ParamsAt::Three { params, next } = params_at(s, at) else {
-        return answers::bad(filter, out, used);
+        return answers::bad(held, out, used);
     };
     if !script::no_token(s, next) {
-        return answers::bad(filter, out, used);
+        return answers::bad(held, out, used);
     }
-    answers::number(filter.set_params(params), out, used)
+    answers::number(held::set_params(held, whose, params), out, used)
 }
 
 // setkind i KIND
-fn set_kind(filter: Filter, s: &[u8], at: usize, out: &mut [u8], used: usize) -> Turn {
+fn set_kind(held: Held, whose: Whose, s: &[u8], at: usize, out: &mut [u8], used: usize) -> Turn {
     let SizeRead::Size { value: i, next } = script::size_at(s, at) else {
-        return answers::bad(filter, out, used);
+        return answers::bad(held, out, used);
     };
     let KindRead::Told { kind, next } = script::kind_at(s, next) else {
-        return answers::bad(filter, out, used);
+        return answers::bad(held, out, used);
     };
     if !script::no_token(s, next) {
-        return answers::bad(filter, out, used);
+        return answers::bad(held, out, used);
     }
-    answers::number(filter.set_kind(i as usize, kind), out, used)
-}
-
-fn reading(filter: Filter, refusal: u8) -> Answer {
-    Answer { filter, refusal }
-}
-
-// What a call does that is lent a buffer.
-fn with_buffer(name: Name, filter: Filter, buffer: &mut [f64]) -> Answer {
-    match name {
-        Name::OpenPrediction => filter.open_prediction(buffer),
-        Name::OpenCorrection => filter.open_correction(buffer),
-        Name::ReadX => reading(filter, filter.read_x(buffer)),
-        Name::ReadP => reading(filter, filter.read_p(buffer)),
-        Name::ReadQ => reading(filter, filter.read_q(buffer)),
-        _ => reading(filter, filter.read_points(buffer)),
-    }
+    let done = held::set_kind(held, whose, i as usize, kind);
+    answers::number(done, out, used)
 }
 
 // openp BUF, openc BUF, readx BUF, readp BUF, readq BUF, readpts BUF
-fn lend(name: Name, filter: Filter, s: &[u8], at: usize, out: &mut [u8], used: usize) -> Turn {
+fn lend(
+    name: Name,
+    held: Held,
+    whose: Whose,
+    s: &[u8],
+    at: usize,
+    out: &mut [u8],
+    used: usize,
+) -> Turn {
     let SizeRead::Size { value, next } = script::size_at(s, at) else {
-        return answers::bad(filter, out, used);
+        return answers::bad(held, out, used);
     };
     if 512 < value {
-        return answers::bad(filter, out, used);
+        return answers::bad(held, out, used);
     }
     if !script::no_token(s, next) {
-        return answers::bad(filter, out, used);
+        return answers::bad(held, out, used);
     }
     let len = value as usize;
     let mut buffer = script::marked();
-    let a = with_buffer(name, filter, &mut buffer[..len]);
+    let a = held::with_buffer(name, held, whose, &mut buffer[..len]);
     answers::buffer(a, script::front(&buffer, len), out, used)
 }
 
@@ -207,26 +246,11 @@ fn kinds_of(name: Name, s: &[u8], at: usize) -> FourKinds {
     }
 }
 
-// What a close of a correction does.
-fn with_measurement(
-    name: Name,
-    filter: Filter,
-    m: usize,
-    z: &[f64],
-    r: &[f64],
-    kinds: [Kind; 4],
-    observed: &[f64],
-) -> Answer {
-    match name {
-        Name::CloseCorrection => filter.close_correction(m, z, r, kinds, observed),
-        _ => filter.close_correction_flat(m, z, r, observed),
-    }
-}
-
 // closec m LIST(z) LIST(R) KIND KIND KIND KIND LIST(observed), closef m LIST(z) LIST(R) LIST(observed)
 fn close_correction(
     name: Name,
-    filter: Filter,
+    held: Held,
+    whose: Whose,
     s: &[u8],
     at: usize,
     out: &mut [u8],
@@ -236,33 +260,30 @@ fn close_correction(
     let mut r = [0.0f64; 512];
     let mut observed = [0.0f64; 512];
     let SizeRead::Size { value: m, next } = script::size_at(s, at) else {
-        return answers::bad(filter, out, used);
+        return answers::bad(held, out, used);
     };
     let ListRead::Numbers { len: of_z, next } = script::list_at(s, next, &mut z) else {
-        return answers::bad(filter, out, used);
+        return answers::bad(held, out, used);
     };
     let ListRead::Numbers { len: of_r, next } = script::list_at(s, next, &mut r) else {
-        return answers::bad(filter, out, used);
+        return answers::bad(held, out, used);
     };
     let four = kinds_of(name, s, next);
     if !four.found {
-        return answers::bad(filter, out, used);
+        return answers::bad(held, out, used);
     }
     let ListRead::Numbers { len, next } = script::list_at(s, four.next, &mut observed) else {
-        return answers::bad(filter, out, used);
+        return answers::bad(held, out, used);
     };
     if !script::no_token(s, next) {
-        return answers::bad(filter, out, used);
+        return answers::bad(held, out, used);
     }
     let z = script::front(&z, of_z);
     let r = script::front(&r, of_r);
     let observed = script::front(&observed, len);
     let kinds = four.kinds;
-    answers::close(
-        with_measurement(name, filter, m as usize, z, r, kinds, observed),
-        out,
-        used,
-    )
+    let done = held::with_measurement(name, held, whose, m as usize, z, r, kinds, observed);
+    answers::close(done, whose, out, used)
 }
 
 // The numbers start at k * n, where that is accepted.
@@ -276,108 +297,142 @@ fn point_of(n: usize, k: usize, list: &[f64], out: &mut [u8], used: usize) -> us
 }
 
 // point n k LIST
-fn point(filter: Filter, s: &[u8], at: usize, out: &mut [u8], used: usize) -> Turn {
+fn point(held: Held, s: &[u8], at: usize, out: &mut [u8], used: usize) -> Turn {
     let mut list = [0.0f64; 512];
     let SizeRead::Size { value: n, next } = script::size_at(s, at) else {
-        return answers::bad(filter, out, used);
+        return answers::bad(held, out, used);
     };
     let SizeRead::Size { value: k, next } = script::size_at(s, next) else {
-        return answers::bad(filter, out, used);
+        return answers::bad(held, out, used);
     };
     let ListRead::Numbers { len, next } = script::list_at(s, next, &mut list) else {
-        return answers::bad(filter, out, used);
+        return answers::bad(held, out, used);
     };
     if !script::no_token(s, next) {
-        return answers::bad(filter, out, used);
+        return answers::bad(held, out, used);
     }
     let used = point_of(n as usize, k as usize, script::front(&list, len), out, used);
-    Turn { filter, used }
+    Turn { held, used }
 }
 
 // wrap d h
-fn wrap(filter: Filter, s: &[u8], at: usize, out: &mut [u8], used: usize) -> Turn {
+fn wrap(held: Held, s: &[u8], at: usize, out: &mut [u8], used: usize) -> Turn {
     let NumberRead::Number { value: d, next } = script::number_at(s, at) else {
-        return answers::bad(filter, out, used);
+        return answers::bad(held, out, used);
     };
     let NumberRead::Number { value: h, next } = script::number_at(s, next) else {
-        return answers::bad(filter, out, used);
+        return answers::bad(held, out, used);
     };
     if !script::no_token(s, next) {
-        return answers::bad(filter, out, used);
+        return answers::bad(held, out, used);
     }
     let w = angles::wrap(d, h);
     Turn {
-        filter,
+        held,
         used: answers::value(w.refusal, w.value, out, used),
     }
 }
 
 // root a
-fn root(filter: Filter, s: &[u8], at: usize, out: &mut [u8], used: usize) -> Turn {
+fn root(held: Held, s: &[u8], at: usize, out: &mut [u8], used: usize) -> Turn {
     let NumberRead::Number { value, next } = script::number_at(s, at) else {
-        return answers::bad(filter, out, used);
+        return answers::bad(held, out, used);
     };
     if !script::no_token(s, next) {
-        return answers::bad(filter, out, used);
+        return answers::bad(held, out, used);
     }
     let r = root::square_root(value);
     let used = match r {
         Root::Value(v) => answers::value(0, v, out, used),
         Root::Refused => script::put(out, used, b"5\n"),
     };
-    Turn { filter, used }
+    Turn { held, used }
 }
 
 // abandon, readpar, readstale, dump: nothing follows the name.
-fn alone(name: Name, filter: Filter, s: &[u8], at: usize, out: &mut [u8], used: usize) -> Turn {
+fn alone(
+    name: Name,
+    held: Held,
+    whose: Whose,
+    s: &[u8],
+    at: usize,
+    out: &mut [u8],
+    used: usize,
+) -> Turn {
     if !script::no_token(s, at) {
-        return answers::bad(filter, out, used);
+        return answers::bad(held, out, used);
     }
     match name {
-        Name::Abandon => answers::number(filter.abandon(), out, used),
-        Name::ReadParams => answers::params(filter, out, used),
-        Name::ReadStale => answers::stale(filter, out, used),
-        _ => answers::dump(filter, out, used),
+        Name::Abandon => answers::number(held::abandon(held, whose), out, used),
+        Name::ReadParams => answers::params(held, whose, out, used),
+        Name::ReadStale => answers::stale(held, whose, out, used),
+        _ => answers::dump(held, whose, out, used),
     }
 }
 
-// The answer to the call on a line, up to its comment; none where there is no token.
-fn code(filter: Filter, s: &[u8], out: &mut [u8], used: usize) -> Turn {
-    if script::no_token(s, 0) {
-        return Turn { filter, used };
-    }
-    let call = script::call_at(s, 0);
-    let at = call.next;
-    let name = call.name;
+// A call on the filter or on a side of the pair: the same lines.
+fn call(
+    name: Name,
+    held: Held,
+    whose: Whose,
+    s: &[u8],
+    at: usize,
+    out: &mut [u8],
+    used: usize,
+) -> Turn {
     match name {
-        Name::New => new(filter, s, at, out, used),
-        Name::SetX | Name::SetP | Name::SetQ => set(name, filter, s, at, out, used),
-        Name::SetParams => set_params(filter, s, at, out, used),
-        Name::SetKind => set_kind(filter, s, at, out, used),
+        Name::SetX | Name::SetP | Name::SetQ => set(name, held, whose, s, at, out, used),
+        Name::SetParams => set_params(held, whose, s, at, out, used),
+        Name::SetKind => set_kind(held, whose, s, at, out, used),
         Name::OpenPrediction
         | Name::OpenCorrection
         | Name::ReadX
         | Name::ReadP
         | Name::ReadQ
-        | Name::ReadPoints => lend(name, filter, s, at, out, used),
-        Name::ClosePrediction => close_prediction(filter, s, at, out, used),
+        | Name::ReadPoints => lend(name, held, whose, s, at, out, used),
+        Name::ClosePrediction => close_prediction(held, whose, s, at, out, used),
         Name::CloseCorrection | Name::CloseCorrectionFlat => {
-            close_correction(name, filter, s, at, out, used)
+            close_correction(name, held, whose, s, at, out, used)
         }
         Name::Abandon | Name::ReadParams | Name::ReadStale | Name::Dump => {
-            alone(name, filter, s, at, out, used)
+            alone(name, held, whose, s, at, out, used)
         }
-        Name::Point => point(filter, s, at, out, used),
-        Name::Wrap => wrap(filter, s, at, out, used),
-        Name::Root => root(filter, s, at, out, used),
-        Name::Unknown => answers::bad(filter, out, used),
+        _ => answers::bad(held, out, used),
+    }
+}
+
+// @1 CALL, @2 CALL
+fn on_side(held: Held, side: Side, s: &[u8], at: usize, out: &mut [u8], used: usize) -> Turn {
+    let named = script::call_at(s, at);
+    let next = named.next;
+    let name = named.name;
+    call(name, held, Whose::On(side), s, next, out, used)
+}
+
+// The answer to the call on a line, up to its comment; none where there is no token.
+fn code(held: Held, s: &[u8], out: &mut [u8], used: usize) -> Turn {
+    if script::no_token(s, 0) {
+        return Turn { held, used };
+    }
+    let named = script::call_at(s, 0);
+    let at = named.next;
+    let name = named.name;
+    match name {
+        Name::New => new(held, s, at, out, used),
+        Name::NewPair => new_pair(held, s, at, out, used),
+        Name::First => on_side(held, Side::First, s, at, out, used),
+        Name::Second => on_side(held, Side::Second, s, at, out, used),
+        Name::Point => point(held, s, at, out, used),
+        Name::Wrap => wrap(held, s, at, out, used),
+        Name::Root => root(held, s, at, out, used),
+        _ => call(name, held, Whose::Alone, s, at, out, used),
     }
 }
 
 // The answer to the line that the first len bytes of line are; one that is too long is no call.
-pub fn answer(filter: Filter, line: &[u8], len: usize, out: &mut [u8], used: usize) -> Turn {
+pub fn answer(held: Held, line: &[u8], len: usize, out: &mut [u8], used: usize) -> Turn {
     if 16384 < len {
-        return answers::bad(filter, out, used);
+        return answers::bad(held, out, used);
     }
-    code(filter, script::code(script::first(line, len)), out, used)
+    code(held, script::code(script::first(line, len)), out, used)
 }

@@ -1,22 +1,25 @@
-// Reads a script of calls on standard input, runs them on one filter, and writes the answers to standard output.
+// Reads a script of calls on standard input, runs them on a filter and on a pair, and writes the answers to standard output.
 // The input is read in pieces; a line is gathered from them and answered, and what the answers gather is written once the lines of a piece are done.
+use crate::held::Held;
 use filter::Filter;
 use libc::STDIN_FILENO;
 use libc::STDOUT_FILENO;
+use pairs::Pair;
 use sigma::Params;
 
 mod answers;
 mod calls;
+mod held;
 
-// The current filter, how many bytes of the line that is being read are there, how many bytes of answers wait, and whether the input goes on.
+// What is held, how many bytes of the line that is being read are there, how many bytes of answers wait, and whether the input goes on.
 struct Run {
-    filter: Filter,
+    held: Held,
     line: usize,
     used: usize,
     going: bool,
 }
 
-// Before the first `new` stands the empty filter, as New gives it where it refuses.
+// Before the first `new` stands the empty filter, and before the first `newpair` the empty pair, as New gives them where it refuses.
 fn start() -> Run {
     let params = Params {
         alpha: 0.0,
@@ -25,9 +28,11 @@ fn start() -> Run {
     };
     let none = [0.0f64; 1];
     let a = Filter::new(0, &none, &none, &none, params);
+    let b = Pair::new(0, &none, &none, &none, &none, &none, params);
     let filter = a.filter;
+    let pair = b.pair;
     Run {
-        filter,
+        held: Held { filter, pair },
         line: 0,
         used: 0,
         going: true,
@@ -50,11 +55,11 @@ fn make_room(out: &[u8], used: usize) -> usize {
 
 // Answers a line that has come to its end.
 fn end_line(run: Run, line: &[u8], out: &mut [u8]) -> Run {
-    let filter = run.filter;
-    let turn = calls::answer(filter, line, run.line, out, run.used);
-    let filter = turn.filter;
+    let held = run.held;
+    let turn = calls::answer(held, line, run.line, out, run.used);
+    let held = turn.held;
     Run {
-        filter,
+        held,
         line: 0,
         used: make_room(out, turn.used),
         going: run.going,

@@ -1,11 +1,11 @@
--- The names of the calls, each with the call that it names. Definitions only.
+-- The names of the calls, each with the call that it names, and of the two sides of a pair. Definitions only.
 use Prim.Native.Nat.{ℕ}
 use mathlib.Core.Bool.{cond}
 use mathlib.Core.List.{List, [], _∷_}
 use Rattle.script.specs.Text.{tokenOf, partOf, sameBytes}
 use Rattle.script.specs.declared.text.Token.{Token}
 use Rattle.script.specs.declared.names.Name.{Name}
-use Rattle.script.specs.declared.names.Name.the-variants.{New, SetX, SetP, SetQ, SetParams, SetKind, OpenPrediction, OpenCorrection, ClosePrediction, CloseCorrection, CloseCorrectionFlat, Abandon, ReadX, ReadP, ReadQ, ReadPoints, ReadParams, ReadStale, Point, Wrap, Root, Dump, Unknown}
+use Rattle.script.specs.declared.names.Name.the-variants.{New, SetX, SetP, SetQ, SetParams, SetKind, OpenPrediction, OpenCorrection, ClosePrediction, CloseCorrection, CloseCorrectionFlat, Abandon, ReadX, ReadP, ReadQ, ReadPoints, ReadParams, ReadStale, Point, Wrap, Root, Dump, NewPair, First, Second, Unknown}
 use Rattle.script.specs.declared.names.Call.{Call}
 
 -- a name, in bytes, and its call
@@ -25,6 +25,9 @@ others =
     record { word = 119 ∷ 114 ∷ 97 ∷ 112 ∷ []; call = Wrap } ∷  -- wrap
     record { word = 114 ∷ 111 ∷ 111 ∷ 116 ∷ []; call = Root } ∷  -- root
     record { word = 100 ∷ 117 ∷ 109 ∷ 112 ∷ []; call = Dump } ∷  -- dump
+    record { word = 110 ∷ 101 ∷ 119 ∷ 112 ∷ 97 ∷ 105 ∷ 114 ∷ []; call = NewPair } ∷  -- newpair
+    record { word = 64 ∷ 49 ∷ []; call = First } ∷  -- @1
+    record { word = 64 ∷ 50 ∷ []; call = Second } ∷  -- @2
     []
 
 abbrev pub readings : List Entry

@@ -28,10 +28,13 @@ pub enum Name {
     Wrap,
     Root,
     Dump,
+    NewPair,
+    First,
+    Second,
     Unknown,
 }
 
-// The same among the last four.
+// The same among the last seven. `@1` and `@2` name no call but a side of the pair: the call on it follows.
 fn other_of(token: &[u8]) -> Name
     ensures { λ r. ⌜ r ≡ named others (now (token .entry)) ⌝ }
 {
@@ -46,6 +49,15 @@ fn other_of(token: &[u8]) -> Name
     }
     if same_bytes(token, b"dump") {
         return Name::Dump;
+    }
+    if same_bytes(token, b"newpair") {
+        return Name::NewPair;
+    }
+    if same_bytes(token, b"@1") {
+        return Name::First;
+    }
+    if same_bytes(token, b"@2") {
+        return Name::Second;
     }
     Name::Unknown
 }

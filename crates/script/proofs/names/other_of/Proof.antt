@@ -1,4 +1,4 @@
--- `script::names::other_of` meets its contract: the last four names in turn. Assumes nothing.
+-- `script::names::other_of` meets its contract: the last seven names in turn. Assumes nothing.
 use mathlib.Core.Path.{refl}
 use borrow.Author.Needs.{needs}
 use denote.Ref.{now}
@@ -20,9 +20,18 @@ past3 c = missed (past2 (c .before .before .before)) (c .before .same-bytes3 .en
 past4 : (c : tie.Else4) → Tried others (drop 4 others) (now (c .before .before .before .before .before .before .before .before .before .before .before .before .before .args .token))
 past4 c = missed (past3 (c .before .before .before)) (c .before .same-bytes4 .ensures) (c .if4 .left)
 
-returns-5 : tie.Need-returns-5
+past5 : (c : tie.Else5) → Tried others (drop 5 others) (now (c .before .before .before .before .before .before .before .before .before .before .before .before .before .before .before .before .args .token))
+past5 c = missed (past4 (c .before .before .before)) (c .before .same-bytes5 .ensures) (c .if5 .left)
+
+past6 : (c : tie.Else6) → Tried others (drop 6 others) (now (c .before .before .before .before .before .before .before .before .before .before .before .before .before .before .before .before .before .before .before .args .token))
+past6 c = missed (past5 (c .before .before .before)) (c .before .same-bytes6 .ensures) (c .if6 .left)
+
+past7 : (c : tie.Else7) → Tried others (drop 7 others) (now (c .before .before .before .before .before .before .before .before .before .before .before .before .before .before .before .before .before .before .before .before .before .before .args .token))
+past7 c = missed (past6 (c .before .before .before)) (c .before .same-bytes7 .ensures) (c .if7 .left)
+
+returns-8 : tie.Need-returns-8
 unfolding named
-returns-5 c = last (past4 c) refl
+returns-8 c = last (past7 c) refl
 
 pub other-of-spec : {M : Type 1} → statement M
 other-of-spec =
@@ -40,4 +49,13 @@ other-of-spec =
     (λ c. search needs)
     (λ c κs. search needs)
     (λ c. hit (past3 (c .before .before .before)) (c .before .same-bytes4 .ensures) (c .if4 .taken))
-    returns-5)
+    (λ c. search needs)
+    (λ c κs. search needs)
+    (λ c. hit (past4 (c .before .before .before)) (c .before .same-bytes5 .ensures) (c .if5 .taken))
+    (λ c. search needs)
+    (λ c κs. search needs)
+    (λ c. hit (past5 (c .before .before .before)) (c .before .same-bytes6 .ensures) (c .if6 .taken))
+    (λ c. search needs)
+    (λ c κs. search needs)
+    (λ c. hit (past6 (c .before .before .before)) (c .before .same-bytes7 .ensures) (c .if7 .taken))
+    returns-8)

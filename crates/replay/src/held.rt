@@ -1,0 +1,237 @@
+// What the calls of a script are on, the current filter and the current pair, and each call on the filter or on a side.
+ghost use mathlib.Core.Path.{_≡_};
+use angles::Kind;
+use filter::Answer;
+use filter::Filter;
+use filter::ParamsRead;
+use filter::StaleRead;
+use pairs::Pair;
+use pairs::PairAnswer;
+use pairs::Side;
+use script::Name;
+use sigma::Params;
+
+pub struct Held {
+    pub filter: Filter,
+    pub pair: Pair,
+}
+
+// Whose call it is: the filter's, or that of a side of the pair.
+pub enum Whose {
+    Alone,
+    On(Side),
+}
+
+// What a call has left, with the answer number.
+pub struct Done {
+    pub held: Held,
+    pub refusal: u8,
+}
+
+// A call on the filter leaves the pair, and one on the pair the filter.
+pub fn alone(held: Held, a: Answer) -> Done
+    ensures { λ r. ⌜ r ≡ record { held = record { filter = a .filter; pair = held .pair }; refusal = a .refusal } ⌝ }
+{
+    let filter = a.filter;
+    let pair = held.pair;
+    Done {
+        held: Held { filter, pair },
+        refusal: a.refusal,
+    }
+}
+
+pub fn paired(held: Held, a: PairAnswer) -> Done
+    ensures { λ r. ⌜ r ≡ record { held = record { filter = held .filter; pair = a .pair }; refusal = a .refusal } ⌝ }
+{
+    let filter = held.filter;
+    let pair = a.pair;
+    Done {
+        held: Held { filter, pair },
+        refusal: a.refusal,
+    }
+}
+
+// A reading leaves both.
+fn read(held: Held, refusal: u8) -> Done
+    ensures { λ r. ⌜ r ≡ record { held = held; refusal = refusal } ⌝ }
+{
+    Done { held, refusal }
+}
+
+// The filter, or a side with the sheet.
+pub fn shown(held: Held, whose: Whose) -> Filter {
+    let pair = held.pair;
+    let sheet = pair.sheet;
+    let first = pair.first;
+    let second = pair.second;
+    match whose {
+        Whose::Alone => held.filter,
+        Whose::On(side) => match side {
+            Side::First => Filter {
+                sheet,
+                track: first,
+            },
+            Side::Second => Filter {
+                sheet,
+                track: second,
+            },
+        },
+    }
+}
+
+// What a call does that is lent a list.
+fn alone_list(name: Name, held: Held, list: &[f64]) -> Done {
+    let filter = held.filter;
+    match name {
+        Name::SetX => alone(held, filter.set_x(list)),
+        Name::SetP => alone(held, filter.set_p(list)),
+        Name::SetQ => alone(held, filter.set_q(list)),
+        _ => alone(held, filter.close_prediction(list)),
+    }
+}
+
+fn side_list(name: Name, held: Held, side: Side, list: &[f64]) -> Done {
+    let pair = held.pair;
+    match name {
+        Name::SetX => paired(held, pair.set_x(side, list)),
+        Name::SetP => paired(held, pair.set_p(side, list)),
+        Name::SetQ => paired(held, pair.set_q(list)),
+        _ => paired(held, pair.close_prediction(side, list)),
+    }
+}
+
+pub fn with_list(name: Name, held: Held, whose: Whose, list: &[f64]) -> Done {
+    match whose {
+        Whose::Alone => alone_list(name, held, list),
+        Whose::On(side) => side_list(name, held, side, list),
+    }
+}
+
+// A call that is lent a buffer.
+fn alone_buffer(name: Name, held: Held, buffer: &mut [f64]) -> Done {
+    let filter = held.filter;
+    match name {
+        Name::OpenPrediction => alone(held, filter.open_prediction(buffer)),
+        Name::OpenCorrection => alone(held, filter.open_correction(buffer)),
+        Name::ReadX => read(held, filter.read_x(buffer)),
+        Name::ReadP => read(held, filter.read_p(buffer)),
+        Name::ReadQ => read(held, filter.read_q(buffer)),
+        _ => read(held, filter.read_points(buffer)),
+    }
+}
+
+fn side_buffer(name: Name, held: Held, side: Side, buffer: &mut [f64]) -> Done {
+    let pair = held.pair;
+    match name {
+        Name::OpenPrediction => paired(held, pair.open_prediction(side, buffer)),
+        Name::OpenCorrection => paired(held, pair.open_correction(side, buffer)),
+        Name::ReadX => read(held, pair.read_x(side, buffer)),
+        Name::ReadP => read(held, pair.read_p(side, buffer)),
+        Name::ReadQ => read(held, pair.read_q(side, buffer)),
+        _ => read(held, pair.read_points(side, buffer)),
+    }
+}
+
+pub fn with_buffer(name: Name, held: Held, whose: Whose, buffer: &mut [f64]) -> Done {
+    match whose {
+        Whose::Alone => alone_buffer(name, held, buffer),
+        Whose::On(side) => side_buffer(name, held, side, buffer),
+    }
+}
+
+// The closes of a correction.
+fn alone_close(
+    name: Name,
+    held: Held,
+    m: usize,
+    z: &[f64],
+    r: &[f64],
+    kinds: [Kind; 4],
+    observed: &[f64],
+) -> Done {
+    let filter = held.filter;
+    match name {
+        Name::CloseCorrection => alone(held, filter.close_correction(m, z, r, kinds, observed)),
+        _ => alone(held, filter.close_correction_flat(m, z, r, observed)),
+    }
+}
+
+fn side_close(
+    name: Name,
+    held: Held,
+    side: Side,
+    m: usize,
+    z: &[f64],
+    r: &[f64],
+    kinds: [Kind; 4],
+    observed: &[f64],
+) -> Done {
+    let pair = held.pair;
+    match name {
+        Name::CloseCorrection => {
+            paired(held, pair.close_correction(side, m, z, r, kinds, observed))
+        }
+        _ => paired(held, pair.close_correction_flat(side, m, z, r, observed)),
+    }
+}
+
+pub fn with_measurement(
+    name: Name,
+    held: Held,
+    whose: Whose,
+    m: usize,
+    z: &[f64],
+    r: &[f64],
+    kinds: [Kind; 4],
+    observed: &[f64],
+) -> Done {
+    match whose {
+        Whose::Alone => alone_close(name, held, m, z, r, kinds, observed),
+        Whose::On(side) => side_close(name, held, side, m, z, r, kinds, observed),
+    }
+}
+
+pub fn set_params(held: Held, whose: Whose, params: Params) -> Done {
+    let filter = held.filter;
+    let pair = held.pair;
+    match whose {
+        Whose::Alone => alone(held, filter.set_params(params)),
+        Whose::On(_) => paired(held, pair.set_params(params)),
+    }
+}
+
+pub fn set_kind(held: Held, whose: Whose, i: usize, kind: Kind) -> Done {
+    let filter = held.filter;
+    let pair = held.pair;
+    match whose {
+        Whose::Alone => alone(held, filter.set_kind(i, kind)),
+        Whose::On(_) => paired(held, pair.set_kind(i, kind)),
+    }
+}
+
+pub fn abandon(held: Held, whose: Whose) -> Done {
+    let filter = held.filter;
+    let pair = held.pair;
+    match whose {
+        Whose::Alone => alone(held, filter.abandon()),
+        Whose::On(side) => paired(held, pair.abandon(side)),
+    }
+}
+
+pub fn read_params(held: Held, whose: Whose) -> ParamsRead {
+    let filter = held.filter;
+    let pair = held.pair;
+    match whose {
+        Whose::Alone => filter.read_params(),
+        Whose::On(side) => pair.read_params(side),
+    }
+}
+
+pub fn read_stale(held: Held, whose: Whose) -> StaleRead {
+    let filter = held.filter;
+    let pair = held.pair;
+    match whose {
+        Whose::Alone => filter.read_stale(),
+        Whose::On(side) => pair.read_stale(side),
+    }
+}
