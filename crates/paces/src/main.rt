@@ -101,9 +101,9 @@ fn main() {
         return;
     };
     let large = run(8, 4, rounds);
-    let x = large.x;
+    let x = large.track.x;
     put(&x, 8);
     let small = run(3, 2, rounds);
-    let y = small.x;
+    let y = small.track.x;
     put(&y, 3);
 }
