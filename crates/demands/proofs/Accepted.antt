@@ -38,7 +38,7 @@ module _ (f : Format) (s : Filter) where
       never r e = absurd (omega (arith, number-above r))
 
   -- the same where the plan is accepted with d alone
-  taken-step : (c : Call) (d : Done) → Ran (plan f (seen s) c) (λ (a : Done). a ≡ d) → step f s c .reply .refusal ≡ 0 → step f s c ≡ stepped s (accepted d)
+  pub taken-step : (c : Call) (d : Done) → Ran (plan f (seen s) c) (λ (a : Done). a ≡ d) → step f s c .reply .refusal ≡ 0 → step f s c ≡ stepped s (accepted d)
   taken-step c d h e = let t = taken-ran c e in t .2 ∙ ap (λ (x : Done). stepped s (accepted x)) (h (t .0) (t .1))
 
   -- ---- closes

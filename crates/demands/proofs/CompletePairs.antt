@@ -1,4 +1,4 @@
--- Complete contracts of a pair's calls, as Complete.antt has them of the others: a line for each public function of `pairs`. Assumes nothing.
+-- Complete contracts of a pair's calls, as Complete.antt has them of the others: a line for each function of `pairs` that can be called from outside. Assumes nothing.
 use mathlib.Core.Path.{_≡_, refl, ap}
 use mathlib.Core.List.{List}
 use lib.Ieee.{Float}

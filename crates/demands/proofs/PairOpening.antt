@@ -1,29 +1,33 @@
 -- A side's open call struck up to its abandon, in the customer's words: with all the calls that reach that side; the partner's other calls stay. Assumes nothing.
 use native.Mathlib.Omega.{arith}
-use mathlib.Core.Path.{_≡_, refl, sym, subst, fun-ext}
+use mathlib.Core.Path.{_≡_, refl, sym, ap, _∙_, subst, fun-ext}
 use mathlib.Core.Bool.{Bool, true, false, cond, and-false}
 use mathlib.Core.List.{List, [], _∷_, _++_}
 use lib.Ieee.{Format}
-use Rattle.filter.specs.Filters.{isShut}
+use Rattle.filter.specs.declared.Filter.{Filter}
+use Rattle.filter.specs.Filters.{isShut, abandoned}
 use Rattle.filter.specs.Calls.{SetCall, Call, writing, setting, closing, abandon, reading}
+use Rattle.filter.specs.Steps.{step}
 use Rattle.pairs.specs.declared.Pair.{Pair}
 use Rattle.pairs.specs.declared.Side.{Side}
 use Rattle.pairs.specs.declared.Side.the-variants.{First, Second}
-use Rattle.pairs.specs.Pairs.{trackAt, onSheet, neitherOpen, pairStep}
-use Rattle.demands.specs.PairRuns.{same, SideCall, by, reaches, Striking, nobody, now, PairStruck, call-kept, refused-struck, open-struck, own-struck, abandon-struck, pairRan, OpenThrough, unreaching}
+use Rattle.pairs.specs.Pairs.{trackAt, solo, onSheet, neitherOpen, pairStep}
+use Rattle.demands.specs.PairRuns.{same, SideCall, by, reaches, Striking, nobody, updated, PairStruck, call-kept, refused-struck, open-struck, own-struck, abandon-struck, pairRan, OpenThrough, unreaching}
 use Rattle.demands.proofs.Rows.{two-ways}
 use Rattle.demands.proofs.PairExactly.{sheet-stage}
-use Rattle.demands.proofs.PairStriking.{same-is}
+use Rattle.demands.proofs.PairStriking.{same-is, own-moved, open-pair}
+use Rattle.demands.proofs.PairSteps.{unreached, refused-whole}
+use Rattle.demands.proofs.Leftover.{opens, abandon-open}
 
-now-own : (w : Side) (t : Bool) (b : Striking) → now w t b w ≡ t
-now-own First t b = refl
-now-own Second t b = refl
+updated-own : (w : Side) (t : Bool) (b : Striking) → updated w t b w ≡ t
+updated-own First t b = refl
+updated-own Second t b = refl
 
-now-back : (w v : Side) → now w false (now w true nobody) v ≡ nobody v
-now-back First First = refl
-now-back First Second = refl
-now-back Second First = refl
-now-back Second Second = refl
+updated-back : (w v : Side) → updated w false (updated w true nobody) v ≡ nobody v
+updated-back First First = refl
+updated-back First Second = refl
+updated-back Second First = refl
+updated-back Second Second = refl
 
 module _ (f : Format) (w : Side) where
   open-now : (p : Pair) (ts : List SideCall) → OpenThrough f w p ts → isShut (trackAt p w .stage) ≡ false
@@ -43,7 +47,7 @@ module _ (f : Format) (w : Side) where
   barred-refused p v (reading c) e s h z = two-ways s refl
 
   -- a call that doesn't reach w may stay
-  clear : (v : Side) (c : Call) → reaches v c w ≡ false → (u : Side) → reaches v c u ≡ true → now w true nobody u ≡ false
+  clear : (v : Side) (c : Call) → reaches v c w ≡ false → (u : Side) → reaches v c u ≡ true → updated w true nobody u ≡ false
   clear v c n u h = go (same w u) refl
     where
       go : (b : Bool) → same w u ≡ b → cond (same w u) true false ≡ false
@@ -52,21 +56,21 @@ module _ (f : Format) (w : Side) where
 
   -- one call of those meanwhile
   meanwhile : (p : Pair) (t : SideCall) (ds es : List SideCall) {cs : List SideCall} → isShut (trackAt p w .stage) ≡ false → isShut (trackAt (pairStep f p (t .side) (t .call) .pair) w .stage) ≡ false
-      → PairStruck f (now w true nobody) (pairStep f p (t .side) (t .call) .pair) cs (ds ++ es) → PairStruck f (now w true nobody) p (t ∷ cs) (cond (reaches (t .side) (t .call) w) ds (t ∷ ds) ++ es)
+      → PairStruck f (updated w true nobody) (pairStep f p (t .side) (t .call) .pair) cs (ds ++ es) → PairStruck f (updated w true nobody) p (t ∷ cs) (cond (reaches (t .side) (t .call) w) ds (t ∷ ds) ++ es)
   meanwhile p t ds es {cs} h i k = go (same (t .side) w) (onSheet (t .call)) refl refl
     where
-      go : (a b : Bool) → same (t .side) w ≡ a → onSheet (t .call) ≡ b → PairStruck f (now w true nobody) p (t ∷ cs) (cond (reaches (t .side) (t .call) w) ds (t ∷ ds) ++ es)
+      go : (a b : Bool) → same (t .side) w ≡ a → onSheet (t .call) ≡ b → PairStruck f (updated w true nobody) p (t ∷ cs) (cond (reaches (t .side) (t .call) w) ds (t ∷ ds) ++ es)
       go true b e s =
           let d = sym (same-is (t .side) w e) in
-          rw e (own-struck (subst (λ (v : Side). now w true nobody v ≡ true) d (now-own w true nobody)) (subst (λ (v : Side). isShut (trackAt (pairStep f p (t .side) (t .call) .pair) v .stage) ≡ false) d i) k)
+          rw e (own-struck (subst (λ (v : Side). updated w true nobody v ≡ true) d (updated-own w true nobody)) (subst (λ (v : Side). isShut (trackAt (pairStep f p (t .side) (t .call) .pair) v .stage) ≡ false) d i) k)
       go false true e s = rw (e, s) (refused-struck (barred-refused p (t .side) (t .call) e s h) k)
       go false false e s = rw (e, s) (call-kept (clear (t .side) (t .call) (rw (e, s))) k)
 
   module _ (cs ds : List SideCall) where
     through : (p : Pair) (mid : List SideCall) → OpenThrough f w p mid → PairStruck f nobody (pairRan f p (mid ++ (by w abandon ∷ []))) cs ds
-        → PairStruck f (now w true nobody) p (mid ++ (by w abandon ∷ cs)) (unreaching w mid ++ ds)
+        → PairStruck f (updated w true nobody) p (mid ++ (by w abandon ∷ cs)) (unreaching w mid ++ ds)
     unfolding pairRan
-    through p [] h k = abandon-struck (now-own w true nobody) (subst (λ (b : Striking). PairStruck f b (pairStep f p w abandon .pair) cs ds) (sym (fun-ext (now-back w))) k)
+    through p [] h k = abandon-struck (updated-own w true nobody) (subst (λ (b : Striking). PairStruck f b (pairStep f p w abandon .pair) cs ds) (sym (fun-ext (updated-back w))) k)
     through p (t ∷ ts) h k = meanwhile p t (unreaching w ts) ds (h .0) (open-now _ ts (h .1)) (through (pairStep f p (t .side) (t .call) .pair) ts (h .1) k)
 
     -- AN OPEN CALL STRUCK UP TO ITS ABANDON
@@ -74,3 +78,36 @@ module _ (f : Format) (w : Side) where
         → PairStruck f nobody (pairRan f p (by w (setting c) ∷ mid ++ (by w abandon ∷ []))) cs ds → PairStruck f nobody p (by w (setting c) ∷ mid ++ (by w abandon ∷ cs)) (unreaching w mid ++ ds)
     unfolding pairRan
     opening-struck p c mid h o k = open-struck refl h (open-now _ mid o) (through (pairStep f p w (setting c) .pair) mid o k)
+
+  -- ---- and the side is as it was, in every bit but scratch
+
+  -- a call after which the open call is still open leaves its side
+  left : (p : Pair) (t : SideCall) → isShut (trackAt p w .stage) ≡ false → isShut (trackAt (pairStep f p (t .side) (t .call) .pair) w .stage) ≡ false → solo (pairStep f p (t .side) (t .call) .pair) w ≡ solo p w
+  left p t h i = go (same (t .side) w) (onSheet (t .call)) refl refl
+    where
+      go : (a b : Bool) → same (t .side) w ≡ a → onSheet (t .call) ≡ b → solo (pairStep f p (t .side) (t .call) .pair) w ≡ solo p w
+      go true b e s =
+          let d = sym (same-is (t .side) w e) in
+          open-pair f p (t .side) (t .call) (subst (λ (v : Side). isShut (trackAt p v .stage) ≡ false) d h) (subst (λ (v : Side). isShut (trackAt (pairStep f p (t .side) (t .call) .pair) v .stage) ≡ false) d i) w
+      go false true e s = ap (λ (q : Pair). solo q w) (refused-whole f p (t .side) (t .call) (barred-refused p (t .side) (t .call) e s h))
+      go false false e s = unreached f p (t .side) (t .call) w (rw (e, s))
+
+  all-left : (p : Pair) (mid : List SideCall) → OpenThrough f w p mid → solo (pairRan f p mid) w ≡ solo p w
+  unfolding pairRan
+  all-left p [] h = refl
+  all-left p (t ∷ ts) h = all-left (pairStep f p (t .side) (t .call) .pair) ts (h .1) ∙ left p t (h .0) (open-now _ ts (h .1))
+
+  ran-append : (p : Pair) (cs ds : List SideCall) → pairRan f p (cs ++ ds) ≡ pairRan f (pairRan f p cs) ds
+  unfolding pairRan
+  ran-append p [] ds = refl
+  ran-append p (t ∷ ts) ds = ran-append (pairStep f p (t .side) (t .call) .pair) ts ds
+
+  pub side-restored : (p : Pair) (c : SetCall) (mid : List SideCall) → isShut (trackAt p w .stage) ≡ true → OpenThrough f w (pairStep f p w (setting c) .pair) mid → solo (pairRan f p (by w (setting c) ∷ mid ++ (by w abandon ∷ []))) w ≡ abandoned (solo p w)
+  unfolding pairRan
+  side-restored p c mid h st =
+      let q = pairStep f p w (setting c) .pair in
+      let m = own-moved f p w (setting c) refl in
+      let o = opens f (solo p w) (setting c) h (ap (λ (s : Filter). isShut (s .track .stage)) (sym m) ∙ open-now q mid st) in
+      let r = all-left q mid st in
+      ap (λ (z : Pair). solo z w) (ran-append q mid (by w abandon ∷ [])) ∙ own-moved f (pairRan f q mid) w abandon refl
+      ∙ ap (λ (s : Filter). step f s abandon .filter) (r ∙ m) ∙ abandon-open f (step f (solo p w) (setting c) .filter) (ap (λ (s : Filter). isShut (s .track .stage)) (sym m) ∙ open-now q mid st) (o .1) ∙ o .0

@@ -3,7 +3,7 @@ use Prim.Native.Nat.{ℕ, zero, suc}
 use native.Mathlib.Omega.{arith}
 use mathlib.Core.Path.{_≡_, refl, sym, ap, ap₂, _∙_}
 use mathlib.Core.Bool.{Bool, true, false, cond}
-use mathlib.Core.List.{List, [], _∷_, _++_}
+use mathlib.Core.List.{List, [], _∷_, _++_, map}
 use lib.Ieee.{Format}
 use Rattle.floats.specs.Refusal.{STAGE, refused}
 use Rattle.filter.specs.declared.Filter.{Filter}
@@ -13,7 +13,7 @@ use Rattle.pairs.specs.declared.Pair.{Pair}
 use Rattle.pairs.specs.declared.Side.{Side}
 use Rattle.pairs.specs.declared.Side.the-variants.{First, Second}
 use Rattle.pairs.specs.Pairs.{solo, onSheet, pairStep}
-use Rattle.demands.specs.Runs.{Told, tells}
+use Rattle.demands.specs.Runs.{Told, tells, told}
 use Rattle.demands.specs.PairRuns.{same, SideCall, on, pairTells, pairTold, ofSide, Heard, own, turned-away, barred, fromPartner, hears, aloneTold}
 use Rattle.demands.proofs.Rows.{two-ways}
 use Rattle.demands.proofs.PairSteps.{on-is, side-barred, replies-agree, reply-is, reached, unreached, refused-whole, taken-solo}
@@ -73,3 +73,9 @@ module _ (f : Format) where
   unfolding ofSide pairTold pairTells aloneTold hears
   notice w p [] = refl
   notice w p (t ∷ ts) = let q = pairStep f p (t .side) (t .call) .pair in at-call p (t .call) (hears f w q ts) (ofSide w (pairTold f q ts)) (t .side) w (notice w q ts)
+
+  -- given calls of its own only, a filter alone tells what any filter tells
+  pub alone-told : (s : Filter) (cs : List Call) → aloneTold f s (map own cs) ≡ told f s cs
+  unfolding aloneTold told
+  alone-told s [] = refl
+  alone-told s (c ∷ cs) = ap (λ (ts : List Told). tells (step f s c) ∷ ts) (alone-told (step f s c .filter) cs)

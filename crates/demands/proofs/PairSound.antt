@@ -1,9 +1,10 @@
 -- Each side of a pair that the demands speak of is a filter that they speak of: what is proved of filters holds of the sides. So every number handed out is finite. Assumes nothing.
 use Prim.Native.Nat.{ℕ, _*_}
 use native.Mathlib.Omega.{arith}
-use mathlib.Core.Path.{_≡_, refl, sym, ap, subst}
+use mathlib.Core.Path.{_≡_, refl, sym, ap, ap₂, subst}
 use mathlib.Core.Bool.{Bool, true, false, cond}
 use mathlib.Core.List.{List, [], _∷_, _++_}
+use mathlib.Core.Logic.{⊎-elim}
 use lib.Dec.{leb}
 use lib.ListN.{length, take}
 use lib.Ieee.{Float, Format}
@@ -12,6 +13,7 @@ use Rattle.floats.specs.Numbers.{plusZero, allFinite}
 use Rattle.floats.proofs.Refusals.{number-above}
 use Rattle.sigma.specs.declared.Params.{Params}
 use Rattle.filter.specs.declared.Filter.{Filter}
+use Rattle.filter.specs.declared.Answer.{Answer}
 use Rattle.filter.specs.Asked.{by-params, inRange, fit, every}
 use Rattle.filter.specs.Filters.{filter}
 use Rattle.filter.specs.Calls.{Call}
@@ -20,12 +22,12 @@ use Rattle.filter.specs.New.{empty, from, sheetFrom, trackFrom, newOf, newAnswe
 use Rattle.pairs.specs.declared.Pair.{Pair}
 use Rattle.pairs.specs.declared.Side.{Side}
 use Rattle.pairs.specs.declared.Side.the-variants.{First, Second}
-use Rattle.pairs.specs.Pairs.{solo, pairStep}
+use Rattle.pairs.specs.Pairs.{trackAt, solo, pairStep}
 use Rattle.pairs.specs.NewPair.{emptyPair, newPairAsks, newPairOf, newPairAnswer}
-use Rattle.demands.specs.Runs.{tells, Alike}
+use Rattle.demands.specs.Runs.{tells}
 use Rattle.demands.specs.Sound.{Sound, Reached, made, further, Yielded, fresh-made, stepped-on, put-at-will, handedOut, Each, end, and}
-use Rattle.demands.specs.PairRuns.{SideCall, on, pairTells, pairTold, barred, AlikePairs, reaches}
-use Rattle.demands.specs.PairSound.{PairReached, pair-new, pair-further, PairYielded, pair-made, pair-stepped, pair-at-will}
+use Rattle.demands.specs.PairRuns.{SideCall, on, pairTells, pairTold, barred, reaches}
+use Rattle.demands.specs.PairSound.{AtWill, PairReached, pair-new, pair-further, PairYielded, pair-made, pair-stepped, pair-at-will}
 use Rattle.demands.proofs.Passed.{by-cases}
 use Rattle.demands.proofs.Arrays.{all-both, all-parts, filled-all}
 use Rattle.demands.proofs.Sound.{sound, tells-finite}
@@ -50,31 +52,34 @@ module _ (f : Format) where
     module _ (x₁ p₁ x₂ p₂ : List Float) where
       abbrev Sides : Outcome Pair → Type 0
       Sides (refused r) = Unit {0}
-      Sides (accepted p) = (solo p First ≡ newAnswer f n x₁ p₁ q params .filter) × (solo p Second ≡ newAnswer f n x₂ p₂ q params .filter)
+      Sides (accepted p) = (newOf f n x₁ p₁ q params ≡ accepted (solo p First)) × (newOf f n x₂ p₂ q params ≡ accepted (solo p Second))
 
       new-made-sides : Sides (newPairOf f n x₁ p₁ x₂ p₂ q params)
       unfolding newPairOf
       new-made-sides =
-          by-cases Sides (λ r. tt) f (newPairAsks f n x₁ p₁ x₂ p₂ q params) _ (λ h.
+          by-cases Sides (λ r. tt) f (newPairAsks n x₁ p₁ x₂ p₂ q params) _ (λ h.
           let a = all-parts (take n x₁ ++ take (n * n) p₁) _ (h .inputs) in
           let b = all-parts (take n x₂ ++ take (n * n) p₂) _ (a .1) in (
-            ap (or empty) (sym (new-made x₁ p₁ (h .sizes .0) (h .lent .0) (h .lent .1 .0) (h .lent .1 .1 .1 .1 .0) (a .0) (b .1) (h .params))),
-            ap (or empty) (sym (new-made x₂ p₂ (h .sizes .0) (h .lent .1 .1 .0) (h .lent .1 .1 .1 .0) (h .lent .1 .1 .1 .1 .0) (b .0) (b .1) (h .params))),
+            new-made x₁ p₁ (h .sizes .0) (h .lent .0) (h .lent .1 .0) (h .lent .1 .1 .1 .1 .0) (a .0) (b .1) (h .params),
+            new-made x₂ p₂ (h .sizes .0) (h .lent .1 .1 .0) (h .lent .1 .1 .1 .0) (h .lent .1 .1 .1 .1 .0) (b .0) (b .1) (h .params),
           ))
 
       -- EACH SIDE OF A NEW PAIR is what New makes of its own start; of a refused one, the empty filter
-      pub new-sides : newPairAnswer f n x₁ p₁ x₂ p₂ q params .refusal ≡ 0
-          → (solo (newPairAnswer f n x₁ p₁ x₂ p₂ q params .pair) First ≡ newAnswer f n x₁ p₁ q params .filter) × (solo (newPairAnswer f n x₁ p₁ x₂ p₂ q params .pair) Second ≡ newAnswer f n x₂ p₂ q params .filter)
+      pub new-sides : newPairAnswer f n x₁ p₁ x₂ p₂ q params .refusal ≡ 0 → let p = newPairAnswer f n x₁ p₁ x₂ p₂ q params .pair in
+          (newAnswer f n x₁ p₁ q params ≡ record { filter = solo p First; refusal = 0 }) × (newAnswer f n x₂ p₂ q params ≡ record { filter = solo p Second; refusal = 0 })
       new-sides = go (newPairOf f n x₁ p₁ x₂ p₂ q params) new-made-sides
         where
-          go : (o : Outcome Pair) → Sides o → refusal o ≡ 0 → (solo (or (emptyPair) o) First ≡ newAnswer f n x₁ p₁ q params .filter) × (solo (or (emptyPair) o) Second ≡ newAnswer f n x₂ p₂ q params .filter)
+          answer : Outcome Filter → Answer
+          answer o = record { filter = or empty o; refusal = refusal o }
+
+          go : (o : Outcome Pair) → Sides o → refusal o ≡ 0 → (newAnswer f n x₁ p₁ q params ≡ record { filter = solo (or emptyPair o) First; refusal = 0 }) × (newAnswer f n x₂ p₂ q params ≡ record { filter = solo (or emptyPair o) Second; refusal = 0 })
           go (refused r) s e = absurd (omega (arith, number-above r))
-          go (accepted p) s e = s
+          go (accepted p) s e = (ap answer (s .0), ap answer (s .1))
 
       pub new-empty : (newPairAnswer f n x₁ p₁ x₂ p₂ q params .refusal ≡ 0 → ⊥) → newPairAnswer f n x₁ p₁ x₂ p₂ q params .pair ≡ emptyPair
       new-empty = go (newPairOf f n x₁ p₁ x₂ p₂ q params)
         where
-          go : (o : Outcome Pair) → (refusal o ≡ 0 → ⊥) → or (emptyPair) o ≡ emptyPair
+          go : (o : Outcome Pair) → (refusal o ≡ 0 → ⊥) → or emptyPair o ≡ emptyPair
           go (refused r) h = refl
           go (accepted p) h = absurd (h refl)
 
@@ -82,11 +87,11 @@ module _ (f : Format) where
       new-holds : (P : Filter → Type 0) → ((m : ℕ) (x p r : List Float) (v : Params) → P (newAnswer f m x p r v .filter)) → (w : Side) → P (solo (newPairAnswer f n x₁ p₁ x₂ p₂ q params .pair) w)
       new-holds P h = go (newPairOf f n x₁ p₁ x₂ p₂ q params) new-made-sides
         where
-          go : (o : Outcome Pair) → Sides o → (w : Side) → P (solo (or (emptyPair) o) w)
+          go : (o : Outcome Pair) → Sides o → (w : Side) → P (solo (or emptyPair o) w)
           go (refused r) s First = subst P (sym empty-new) (h 0 [] [] [] _)
           go (refused r) s Second = subst P (sym empty-new) (h 0 [] [] [] _)
-          go (accepted p) s First = subst P (sym (s .0)) (h n x₁ p₁ q params)
-          go (accepted p) s Second = subst P (sym (s .1)) (h n x₂ p₂ q params)
+          go (accepted p) s First = subst P (ap (or empty) (s .0)) (h n x₁ p₁ q params)
+          go (accepted p) s Second = subst P (ap (or empty) (s .1)) (h n x₂ p₂ q params)
 
   -- ---- EACH SIDE IS A FILTER THAT THE DEMANDS SPEAK OF
 
@@ -102,14 +107,13 @@ module _ (f : Format) where
       go true h = rw (reached f p v c w h, side-barred f p w c) (mine (barred p w c))
       go false h = rw (unreached f p v c w h) y
 
-  alike-side : {p : Pair} (q : Pair) → AlikePairs p q → (w : Side) → Alike (solo p w) (solo q w)
-  alike-side q a First = record { sheet = a .sheet; track = a .first }
-  alike-side q a Second = record { sheet = a .sheet; track = a .second }
+  at-will : (p q : Pair) (w : Side) → Yielded f (solo p w) → p .sheet ≡ q .sheet → AtWill (trackAt p w) (trackAt q w) → Yielded f (solo q w)
+  at-will p q w y e = ⊎-elim (λ d. subst (Yielded f) (ap₂ filter e d) y) (λ a. put-at-will (solo q w) y (record { sheet = e; track = a }))
 
   pub side-yielded : {p : Pair} → PairYielded f p → (w : Side) → Yielded f (solo p w)
   side-yielded (pair-made n x₁ p₁ x₂ p₂ q params) w = new-holds n q params x₁ p₁ x₂ p₂ (Yielded f) (λ m x p r v. fresh-made m x p r v) w
   side-yielded (pair-stepped {p = p} y v c) w = side-holds (Yielded f) (λ s z d. stepped-on z d) p v w c (side-yielded y w)
-  side-yielded (pair-at-will {p = p} q y a) w = put-at-will (solo q w) (side-yielded y w) (alike-side q a w)
+  side-yielded (pair-at-will {p = p} q y e a) w = at-will p q w (side-yielded y w) e (a w)
 
   pub side-reached : {p : Pair} → PairReached f p → (w : Side) → Reached f (solo p w)
   side-reached (pair-new n x₁ p₁ x₂ p₂ q params) w = new-holds n q params x₁ p₁ x₂ p₂ (Reached f) (λ m x p r v. made m x p r v) w

@@ -1,7 +1,7 @@
 -- One step of a pair, side by side: what it leaves of each, and what one side makes of it by itself. Assumes nothing.
 use mathlib.Core.Path.{_≡_, refl, sym, ap, ap₂, _∙_}
 use mathlib.Core.Bool.{Bool, true, false, cond}
-use mathlib.Core.Logic.{_≢_}
+use mathlib.Core.Logic.{_↔_, _≢_}
 use native.Mathlib.Omega.{arith}
 use lib.Ieee.{Format}
 use Rattle.floats.specs.Refusal.{STAGE, Outcome, refused, accepted}
@@ -18,6 +18,14 @@ use Rattle.demands.specs.PairRuns.{other, same, on, barred, reaches}
 use Rattle.demands.proofs.Rows.{two-ways}
 use Rattle.demands.proofs.Table.{Own}
 use Rattle.demands.proofs.Leftover.{stepped-reply, step-cases}
+
+-- the calls that change the sheet
+pub on-sheet-is : (c : Call) → (onSheet c ≡ true) ↔ ((d : SheetCall) × (c ≡ writing d))
+on-sheet-is (writing c) = (λ h. (c, refl), λ d. refl)
+on-sheet-is (setting c) = (λ h. absurd (two-ways h refl), λ d. ap onSheet (d .1))
+on-sheet-is (closing c) = (λ h. absurd (two-ways h refl), λ d. ap onSheet (d .1))
+on-sheet-is abandon = (λ h. absurd (two-ways h refl), λ d. ap onSheet (d .1))
+on-sheet-is (reading c) = (λ h. absurd (two-ways h refl), λ d. ap onSheet (d .1))
 
 -- a call of another sort leaves the sheet
 own-sheet : (s : Filter) (c : Call) (d : Change) → onSheet c ≡ false → Own c d → changed s d .sheet ≡ s .sheet

@@ -15,7 +15,7 @@ use Rattle.pairs.specs.declared.Side.{Side}
 use Rattle.pairs.specs.declared.Side.the-variants.{First, Second}
 use Rattle.pairs.specs.Pairs.{trackAt, solo, onSheet, pairStep}
 use Rattle.demands.specs.Runs.{Told, tells}
-use Rattle.demands.specs.PairRuns.{other, same, SideCall, by, pairTells, pairTold, barred, AlikePairs, reaches, Striking, nobody, now, PairStruck, none-left, call-kept, refused-struck, open-struck, own-struck, abandon-struck, pairRest}
+use Rattle.demands.specs.PairRuns.{other, same, SideCall, by, pairTells, pairTold, barred, AlikePairs, reaches, Striking, nobody, updated, PairStruck, none-left, call-kept, refused-struck, open-struck, own-struck, abandon-struck, pairRest}
 use Rattle.demands.proofs.Rows.{two-ways}
 use Rattle.demands.proofs.Leftover.{same-seen, same-told, alike-seen, abandoned-seen, open-same, opens, abandon-open}
 use Rattle.demands.proofs.PairSteps.{sideStep, side-barred, on-is, solo-is, reached, unreached, refused-whole}
@@ -119,11 +119,11 @@ module _ (f : Format) where
 
   module _ (p : Pair) (w : Side) where
     -- by side w, no sheet change: what the solo call leaves
-    own-moved : (c : Call) → onSheet c ≡ false → solo (pairStep f p w c .pair) w ≡ step f (solo p w) c .filter
+    pub own-moved : (c : Call) → onSheet c ≡ false → solo (pairStep f p w c .pair) w ≡ step f (solo p w) c .filter
     own-moved c h = reached f p w c w (own-reached w c) ∙ ap (λ (t : Stepped). t .filter) (solo-is f p w c h)
 
     -- by a side whose call is open and stays so, it leaves both sides as they were
-    open-pair : (c : Call) → isShut (trackAt p w .stage) ≡ false → isShut (trackAt (pairStep f p w c .pair) w .stage) ≡ false → (v : Side) → solo (pairStep f p w c .pair) v ≡ solo p v
+    pub open-pair : (c : Call) → isShut (trackAt p w .stage) ≡ false → isShut (trackAt (pairStep f p w c .pair) w .stage) ≡ false → (v : Side) → solo (pairStep f p w c .pair) v ≡ solo p v
     open-pair c h k v = go (same w v) refl
       where
         at : Side → Bool → Stepped
@@ -157,7 +157,7 @@ module _ (f : Format) where
       left-beside c e v = rw (e v) (beside v)
 
       -- of w alone: a call that is not on the sheet
-      moved-beside : (c : Call) (t : Bool) → onSheet c ≡ false → Tracks t (solo (pairStep f p w c .pair) w) (solo q w) → Beside (now w t b) (pairStep f p w c .pair) q
+      moved-beside : (c : Call) (t : Bool) → onSheet c ≡ false → Tracks t (solo (pairStep f p w c .pair) w) (solo q w) → Beside (updated w t b) (pairStep f p w c .pair) q
       moved-beside c t s o v = go (same w v) refl
         where
           go : (r : Bool) → same w v ≡ r → Tracks (cond (same w v) t (b v)) (solo (pairStep f p w c .pair) v) (solo q v)
@@ -165,7 +165,7 @@ module _ (f : Format) where
           go false e = rw (e, unreached f p w c v (rw (e, s))) (beside v)
 
       opened-beside : (c : SetCall) → b w ≡ false → isShut (trackAt p w .stage) ≡ true → isShut (trackAt (pairStep f p w (setting c) .pair) w .stage) ≡ false
-          → Beside (now w true b) (pairStep f p w (setting c) .pair) q
+          → Beside (updated w true b) (pairStep f p w (setting c) .pair) q
       opened-beside c i h k =
           let m = own-moved (setting c) refl in
           let o = opens f (solo p w) (setting c) h (ap (λ (s : Filter). isShut (s .track .stage)) (sym m) ∙ k) in
@@ -175,7 +175,7 @@ module _ (f : Format) where
       open-still : b w ≡ true → isShut (trackAt p w .stage) ≡ false
       open-still i = let t : Tracks true (solo p w) (solo q w) = rw i at (beside w) in t .0
 
-      abandoned-beside : b w ≡ true → Beside (now w false b) (pairStep f p w abandon .pair) q
+      abandoned-beside : b w ≡ true → Beside (updated w false b) (pairStep f p w abandon .pair) q
       abandoned-beside i =
           let t : Tracks true (solo p w) (solo q w) = rw i at (beside w) in
           moved-beside abandon false refl (ap seen (own-moved abandon refl ∙ abandon-open f (solo p w) (t .0) (t .1)) ∙ t .2)

@@ -1,54 +1,69 @@
--- Document 02, A4: weld head and diver on one settings sheet. What a call on one side does to the other, and the three demands for pairs. Over every format, every run of calls and every pair. Assumes nothing.
-use Prim.Native.Nat.{ℕ}
+-- Document 02, A4: weld head and diver on one settings sheet. What a call on one side does to the other, and the three demands for pairs. Over every format; all but the last part over every pair. Assumes nothing.
+use Prim.Native.Nat.{ℕ, _*_}
 use mathlib.Core.Path.{_≡_, refl, ap, ap₂, sym, _∙_}
-use mathlib.Core.Bool.{true, false, _||_}
-use mathlib.Core.List.{List, [], _∷_, _++_}
+use mathlib.Core.Bool.{true, false, _||_, cond}
+use mathlib.Core.List.{List, [], _∷_, _++_, map}
 use mathlib.Core.Logic.{_↔_, _≢_, _⊎_}
+use lib.ListN.{take}
 use lib.Ieee.{Float, Format}
-use Rattle.floats.specs.Refusal.{Refusal, SIZE, STAGE, number}
+use Rattle.floats.specs.Refusal.{Refusal, SIZE, STAGE, number, refused}
 use Rattle.floats.specs.Numbers.{plusZero, allFinite}
 use Rattle.floats.specs.Fronts.{over}
 use Rattle.matrix.specs.Results.{planned}
 use Rattle.sigma.specs.declared.Params.{Params}
+use Rattle.filter.specs.declared.Track.{Track}
 use Rattle.filter.specs.declared.Filter.{Filter}
-use Rattle.filter.specs.Filters.{isShut, seen, written, marked}
-use Rattle.filter.specs.Calls.{SheetCall, SetCall, Call, writing, setting, abandon, plan, writingOf}
-use Rattle.filter.specs.Steps.{step, paramsOf, paramsRead, staleRead}
+use Rattle.filter.specs.Asked.{by-params}
+use Rattle.filter.specs.Filters.{isShut, seen, written, marked, abandoned}
+use Rattle.filter.specs.Calls.{SheetCall, SetCall, read-q, read-params, Call, writing, setting, abandon, reading, writingOf, plan}
+use Rattle.filter.specs.Steps.{Stepped, stepped, step, paramsOf, paramsRead, staleRead}
 use Rattle.filter.specs.New.{empty, newAnswer}
 use Rattle.pairs.specs.declared.Pair.{Pair}
 use Rattle.pairs.specs.declared.Side.{Side}
 use Rattle.pairs.specs.declared.Side.the-variants.{First, Second}
-use Rattle.pairs.specs.Pairs.{pair, trackAt, solo, onSheet, neitherOpen, pairFits, pairAsks, pairStep}
+use Rattle.pairs.specs.Pairs.{pair, trackAt, solo, onSheet, pairFits, pairAsks, PairStepped, pairStep, pairAnswered}
 use Rattle.pairs.specs.NewPair.{emptyPair, newPairAsks, newPairAnswer}
+use Rattle.demands.specs.Runs.{told}
 use Rattle.demands.specs.Rows.{OutOfRange, Cause, Applies, Due}
 use Rattle.demands.specs.Sound.{Reached, Yielded, handedOut, Each}
 use Rattle.demands.specs.Settings.{sheetMarks}
-use Rattle.demands.specs.PairRuns.{other, SideCall, by, on, pairTold, pairRan, ofSide, Heard, hears, aloneTold, AlikePairs, nobody, PairStruck, pairRest, OpenThrough, unreaching}
+use Rattle.demands.specs.PairRuns.{other, SideCall, by, pairTold, pairRan, ofSide, own, barred, hears, aloneTold, Noticed, notices, meetingTold, AlikePairs, nobody, PairStruck, pairRest, OpenThrough, unreaching}
 use Rattle.demands.specs.PairSound.{PairReached, PairYielded}
-use Rattle.demands.proofs.PairSteps.{on-is, solo-is, other-unreached, refused-whole}
-use Rattle.demands.proofs.PairRuns.{notice}
+use Rattle.demands.proofs.PairSteps.{on-sheet-is, on-is, side-barred, other-unreached, refused-whole}
+use Rattle.demands.proofs.PairRuns.{notice, alone-told}
+use Rattle.demands.proofs.PairNotice.{noticed, left-alone}
 use Rattle.demands.proofs.PairStriking.{pair-left-over, pair-striking}
-use Rattle.demands.proofs.PairExactly.{pair-ends, pair-exactly, pair-taken, pair-refused, sheet-stage, size-first, sheet-written, sheet-taken, sheet-either, sheet-marked, new-pair-exactly, new-pair-taken}
-use Rattle.demands.proofs.PairOpening.{opening-struck}
+use Rattle.demands.proofs.PairExactly.{pair-ends, pair-exactly, pair-taken, pair-refused, size-first, either-open, sheet-solo, sheet-written, sheet-marked, stage-of, sheet-either, reads-q, reads-params, on-empty, new-pair-exactly, new-pair-taken}
+use Rattle.demands.proofs.PairOpening.{opening-struck, side-restored}
 use Rattle.demands.proofs.PairSound.{new-sides, new-empty, side-yielded, side-reached, pair-finite}
 
+-- which calls change the sheet: those that set Q, the parameters or a kind, and no other
+pub sheet-changes : (c : Call) → (onSheet c ≡ true) ↔ ((d : SheetCall) × (c ≡ writing d))
+sheet-changes = on-sheet-is
+
 module _ (f : Format) where
-  -- ---- One call
+  -- ---- One call, and with it demand 2
 
   module _ (p : Pair) where
-    -- A call that is no sheet change is exactly the solo call on sheet and side, and leaves the other side as it was in every bit.
-    pub a-solo-call : (w : Side) (c : Call) → onSheet c ≡ false → on w (pairStep f p w c) ≡ step f (solo p w) c
-    a-solo-call w c h = on-is f p w c ∙ solo-is f p w c h
+    -- A call on a side is the solo call on sheet and side, in what it tells and in what it leaves of the side (so that what Demand2 says of a filter's call holds of it); but a sheet change while the partner has a call open is refused by 3.
+    pub a-call-on-a-side : (w : Side) (c : Call) → let t = cond (barred p w c) (stepped (solo p w) (refused STAGE)) (step f (solo p w) c) in (pairStep f p w c .reply ≡ t .reply) × (solo (pairStep f p w c .pair) w ≡ t .filter)
+    a-call-on-a-side w c = let e = on-is f p w c ∙ side-barred f p w c in (ap (λ (t : Stepped). t .reply) e, ap (λ (t : Stepped). t .filter) e)
 
-    pub partner-untouched : (w : Side) (c : Call) → onSheet c ≡ false → solo (pairStep f p (other w) c .pair) w ≡ solo p w
-    partner-untouched = other-unreached f p
+    -- One that is no sheet change leaves the other side as it was in every bit.
+    pub partner-untouched : (w : Side) (c : Call) → onSheet c ≡ false → solo (pairStep f p w c .pair) (other w) ≡ solo p (other w)
+    partner-untouched First c h = other-unreached f p Second c h
+    partner-untouched Second c h = other-unreached f p First c h
 
     module _ (c : SheetCall) where
       -- A sheet change gets 3 exactly while either side has a call open, before any other number;
-      pub sheet-stage-when : (w : Side) → (pairStep f p w (writing c) .reply .refusal ≡ number STAGE) ↔ (neitherOpen p ≡ false)
-      sheet-stage-when w = sheet-stage f p w c
+      pub sheet-stage-when : (w : Side) → (pairStep f p w (writing c) .reply .refusal ≡ number STAGE) ↔ ((isShut (p .first .stage) ≡ false) ⊎ (isShut (p .second .stage) ≡ false))
+      sheet-stage-when w = either-open f p w c
 
-      -- accepted, it holds for both: it writes the sheet, and leaves of both tracks all but the mark;
+      -- while neither has, it tells what the same call tells of either side alone, and does to each side what that does, refused or not;
+      pub sheet-change-solo : isShut (p .first .stage) ≡ true → isShut (p .second .stage) ≡ true → (w v : Side) → (pairStep f p w (writing c) .reply ≡ step f (solo p v) (writing c) .reply) × (solo (pairStep f p w (writing c) .pair) v ≡ step f (solo p v) (writing c) .filter)
+      sheet-change-solo = sheet-solo f p c
+
+      -- accepted, it holds for both: it writes the sheet, marks the tracks, and leaves all else of them as it was;
       pub sheet-change : (w : Side) → pairStep f p w (writing c) .reply .refusal ≡ 0 → let u = writingOf (p .sheet) c in pairStep f p w (writing c) .pair ≡ pair (written (p .sheet) u) (marked (p .first) u) (marked (p .second) u)
       sheet-change w = sheet-written f p w c
 
@@ -56,13 +71,16 @@ module _ (f : Format) where
       pub sheet-change-marks : (w : Side) → pairStep f p w (writing c) .reply .refusal ≡ 0 → (v : Side) → trackAt (pairStep f p w (writing c) .pair) v .stale ≡ (sheetMarks c || trackAt p v .stale)
       sheet-change-marks w = sheet-marked f p w c
 
-      -- so it does to each side what the same call does to that side alone;
-      pub sheet-change-solo : (w : Side) → pairStep f p w (writing c) .reply .refusal ≡ 0 → (v : Side) → solo (pairStep f p w (writing c) .pair) v ≡ step f (solo p v) (writing c) .filter
-      sheet-change-solo w = sheet-taken f p w c
-
       -- and it is the same through either side, refused or not.
       pub either-side : pairStep f p First (writing c) ≡ pairStep f p Second (writing c)
       either-side = sheet-either f p c
+
+    -- Both sides read one sheet: Q, and the parameters.
+    pub q-read : (w : Side) (b : List Float) → pairStep f p w (reading (read-q b)) .reply .refusal ≡ 0 → pairStep f p w (reading (read-q b)) .reply .given ≡ take (p .sheet .n * p .sheet .n) (p .sheet .q)
+    q-read = reads-q f p
+
+    pub params-read : (w : Side) → pairStep f p w (reading read-params) .reply .refusal ≡ 0 → paramsRead (pairStep f p w (reading read-params) .reply) .params ≡ p .sheet .params
+    params-read = reads-params f p
 
     -- ---- Demand 1
 
@@ -79,7 +97,10 @@ module _ (f : Format) where
       pub taken-when : (pairStep f p w c .reply .refusal ≡ 0) ↔ ((d : Cause) → Applies f (pairAsks p w c) (planned (plan f (seen (solo p w)) c)) d → ⊥)
       taken-when = pair-taken f p w c
 
-      -- n outside 1 to 8 gets 1 from every call that 3 doesn't stop: so on the empty pair a sheet change gets 1.
+      -- So 3 is given exactly when the call doesn't fit what is open, and n outside 1 to 8 gets 1 from every call that 3 doesn't stop.
+      pub stage-when : (pairStep f p w c .reply .refusal ≡ number STAGE) ↔ (pairFits p w c ≡ false)
+      stage-when = stage-of f p w c
+
       pub size-when : OutOfRange (record { value = p .sheet .n; from = 1; to = 8 }) → pairFits p w c ≡ true → pairStep f p w c .reply .refusal ≡ number SIZE
       size-when = size-first f p w c
 
@@ -92,36 +113,63 @@ module _ (f : Format) where
           → (paramsRead (pairStep f p w c .reply) .params ≡ record { alpha = plusZero; beta = plusZero; kappa = plusZero }) × (staleRead (pairStep f p w c .reply) .stale ≡ true)
       refused-reading n = let r = pair-refused f p w c n in (ap paramsOf (r .0), r .1)
 
-  -- New of a pair: its numbers, exactly when they are due (n; x and P of the first, x and P of the second, Q, the parameters);
+  -- The code hands a step's pair and number back as they are.
+  pub handed-back : (t : PairStepped) → (pairAnswered t .pair ≡ t .pair) × (pairAnswered t .refusal ≡ t .reply .refusal)
+  handed-back t = (refl, refl)
+
+  -- New of a pair asks for 1 to 8 states, for five slices that are long enough, for finite numbers in x and P of the first, x and P of the second, Q and the parameters, and for parameters that pass 6;
   module _ (n : ℕ) (x₁ p₁ x₂ p₂ q : List Float) (params : Params) where
-    pub new-exactly-when : (r : Refusal) → (newPairAnswer f n x₁ p₁ x₂ p₂ q params .refusal ≡ number r) ↔ Due f (newPairAsks f n x₁ p₁ x₂ p₂ q params) [] r
+    pub new-asks : newPairAsks n x₁ p₁ x₂ p₂ q params ≡ record {
+      fits = true;
+      sizes = record { value = n; from = 1; to = 8 } ∷ [];
+      lent = record { slice = x₁; needs = n } ∷ record { slice = p₁; needs = n * n } ∷ record { slice = x₂; needs = n } ∷ record { slice = p₂; needs = n * n } ∷ record { slice = q; needs = n * n } ∷ [];
+      stale = false;
+      inputs = (take n x₁ ++ take (n * n) p₁) ++ ((take n x₂ ++ take (n * n) p₂) ++ (take (n * n) q ++ (params .alpha ∷ params .beta ∷ params .kappa ∷ [])));
+      plain = [];
+      params = by-params n params ∷ [];
+    }
+    new-asks = refl
+
+    -- each of its numbers is given exactly when its row applies and no row before it does, and it is taken exactly when none does;
+    pub new-exactly-when : (r : Refusal) → (newPairAnswer f n x₁ p₁ x₂ p₂ q params .refusal ≡ number r) ↔ Due f (newPairAsks n x₁ p₁ x₂ p₂ q params) [] r
     new-exactly-when = new-pair-exactly f n x₁ p₁ x₂ p₂ q params
 
-    pub new-taken-when : (newPairAnswer f n x₁ p₁ x₂ p₂ q params .refusal ≡ 0) ↔ ((d : Cause) → Applies f (newPairAsks f n x₁ p₁ x₂ p₂ q params) [] d → ⊥)
+    pub new-taken-when : (newPairAnswer f n x₁ p₁ x₂ p₂ q params .refusal ≡ 0) ↔ ((d : Cause) → Applies f (newPairAsks n x₁ p₁ x₂ p₂ q params) [] d → ⊥)
     new-taken-when = new-pair-taken f n x₁ p₁ x₂ p₂ q params
 
-    -- accepted, each side is the filter that New gives of that side's start alone;
-    pub new-gives : newPairAnswer f n x₁ p₁ x₂ p₂ q params .refusal ≡ 0
-        → (solo (newPairAnswer f n x₁ p₁ x₂ p₂ q params .pair) First ≡ newAnswer f n x₁ p₁ q params .filter) × (solo (newPairAnswer f n x₁ p₁ x₂ p₂ q params .pair) Second ≡ newAnswer f n x₂ p₂ q params .filter)
+    -- accepted, New accepts each start by itself too, and each side is the filter that it gives;
+    pub new-gives : newPairAnswer f n x₁ p₁ x₂ p₂ q params .refusal ≡ 0 → let p = newPairAnswer f n x₁ p₁ x₂ p₂ q params .pair in
+        (newAnswer f n x₁ p₁ q params ≡ record { filter = solo p First; refusal = 0 }) × (newAnswer f n x₂ p₂ q params ≡ record { filter = solo p Second; refusal = 0 })
     new-gives = new-sides f n q params x₁ p₁ x₂ p₂
 
     -- refused, both are empty.
     pub refused-new : newPairAnswer f n x₁ p₁ x₂ p₂ q params .refusal ≢ 0 → newPairAnswer f n x₁ p₁ x₂ p₂ q params .pair ≡ emptyPair
     refused-new = new-empty f n q params x₁ p₁ x₂ p₂
 
-  pub empty-sides : (w : Side) → solo emptyPair w ≡ empty
-  empty-sides First = refl
-  empty-sides Second = refl
+  -- Each side of the empty pair answers as the empty filter does; so a sheet change gets 1 there.
+  pub empty-answers : (w : Side) (c : Call) → (pairStep f emptyPair w c .reply ≡ step f empty c .reply) × (pairStep f emptyPair w c .pair ≡ emptyPair)
+  empty-answers = on-empty f
 
   -- ---- What one side can notice of the other is exactly this: the sheet's contents, the marks set by a change, and the refusal of a sheet change while the other has a call open (PairExamples shows each of the three noticed)
 
-  -- Over any run, what a side tells is what a filter alone tells that is given the side's own calls and, in their places, the partner's accepted sheet changes, and 3 to each sheet change of its own while the partner has a call open.
-  pub what-a-side-notices : (w : Side) (p : Pair) (cs : List SideCall) → ofSide w (pairTold f p cs) ≡ aloneTold f (solo p w) (hears f w p cs)
-  what-a-side-notices = notice f
+  -- Over any run, what a side tells is what its track tells that meets, at each of its own calls, the sheet as it stands, the mark that the partner's changes have set since its last call, and 3 where the call is a sheet change and the partner has a call open.
+  pub what-a-side-notices : (w : Side) (p : Pair) (cs : List SideCall) → ofSide w (pairTold f p cs) ≡ meetingTold f (trackAt p w) (notices f w false p cs)
+  what-a-side-notices = noticed f
 
-  -- So whatever else the partners are and are told, a side that hears the same tells the same.
-  pub nothing-else : (w : Side) (p q : Pair) (cs ds : List SideCall) → solo p w ≡ solo q w → hears f w p cs ≡ hears f w q ds → ofSide w (pairTold f p cs) ≡ ofSide w (pairTold f q ds)
-  nothing-else w p q cs ds e h = notice f w p cs ∙ ap₂ (λ (s : Filter) (hs : List Heard). aloneTold f s hs) e h ∙ sym (notice f w q ds)
+  -- So whatever else the partners are and are told, a side that notices the same tells the same.
+  pub nothing-else : (w : Side) (p q : Pair) (cs ds : List SideCall) → trackAt p w ≡ trackAt q w → notices f w false p cs ≡ notices f w false q ds → ofSide w (pairTold f p cs) ≡ ofSide w (pairTold f q ds)
+  nothing-else w p q cs ds e h = noticed f w p cs ∙ ap₂ (λ (t : Track) (ks : List Noticed). meetingTold f t ks) e h ∙ sym (noticed f w q ds)
+
+  -- The same by calls: what a side tells is what a filter alone tells that is given the side's own calls and, in their places, the partner's accepted sheet changes, and 3 to each sheet change of its own while the partner has a call open.
+  pub as-a-filter-alone : (w : Side) (p : Pair) (cs : List SideCall) → ofSide w (pairTold f p cs) ≡ aloneTold f (solo p w) (hears f w p cs)
+  as-a-filter-alone = notice f
+
+  -- Such a filter, given calls of its own only, tells what any filter tells; and that is what a side tells whose partner has nothing open and makes no call.
+  pub own-calls-only : (s : Filter) (cs : List Call) → aloneTold f s (map own cs) ≡ told f s cs
+  own-calls-only = alone-told f
+
+  pub partner-silent : (w : Side) (p : Pair) (cs : List Call) → isShut (trackAt p (other w) .stage) ≡ true → map (λ t. t .told) (pairTold f p (map (by w) cs)) ≡ told f (solo p w) cs
+  partner-silent = left-alone f
 
   -- ---- Demand 3
 
@@ -133,20 +181,24 @@ module _ (f : Format) where
   pub same-rest : {p : Pair} {cs ds : List SideCall} (k : PairStruck f nobody p cs ds) → pairRest f k ≡ pairTold f p ds
   same-rest k = pair-striking f k
 
-  -- In particular an open of side w with every call up to its abandon that reaches w, its own and sheet changes: the partner's other calls stay, and what is struck after it is struck as well.
+  -- In particular an open of side w with every call up to its abandon that reaches w, its own and sheet changes; the partner's other calls stay. Of the calls cs after it more may be struck, which leaves ds.
   pub open-to-abandon : (w : Side) (cs ds : List SideCall) (p : Pair) (c : SetCall) (mid : List SideCall) → isShut (trackAt p w .stage) ≡ true → OpenThrough f w (pairStep f p w (setting c) .pair) mid
       → PairStruck f nobody (pairRan f p (by w (setting c) ∷ mid ++ (by w abandon ∷ []))) cs ds → PairStruck f nobody p (by w (setting c) ∷ mid ++ (by w abandon ∷ cs)) (unreaching w mid ++ ds)
   open-to-abandon = opening-struck f
 
+  -- For an open call, abandoned, leaves the sheet as it was, and the side in every bit but scratch, which is +0, whatever the partner has done meanwhile.
+  pub abandon-restores : (w : Side) (p : Pair) (c : SetCall) (mid : List SideCall) → isShut (trackAt p w .stage) ≡ true → OpenThrough f w (pairStep f p w (setting c) .pair) mid → solo (pairRan f p (by w (setting c) ∷ mid ++ (by w abandon ∷ []))) w ≡ abandoned (solo p w)
+  abandon-restores = side-restored f
+
   -- ---- Every number is finite
 
-  -- Each side of a pair that the demands speak of is a filter that they speak of, so what is proved of filters holds of the sides;
+  -- Each side of a pair that the demands speak of is a filter that they speak of, so what is proved of such filters, the invariant first, holds of the sides;
   pub sides-yielded : {p : Pair} → PairYielded f p → (w : Side) → Yielded f (solo p w)
   sides-yielded = side-yielded f
 
   pub sides-reached : {p : Pair} → PairReached f p → (w : Side) → Reached f (solo p w)
   sides-reached = side-reached f
 
-  -- and every number handed out, and x and P after every call, is finite.
+  -- and every number handed out, and x and P of its side after every call, is finite.
   pub every-number-is-finite : (p : Pair) → PairYielded f p → (cs : List SideCall) → Each (λ t. allFinite (handedOut (t .told)) ≡ true) (pairTold f p cs)
   every-number-is-finite = pair-finite f

@@ -161,31 +161,49 @@ settingStory =
     ∷ ("A3 corrected by the new alpha", (measuringBy (int 3) (frac 13 2) (int 2 ∷ int 6 ∷ int 2 ∷ []), telling 0 [] (frac 13 4) (frac 75 64) true))
     ∷ []
 
--- A4 through the calls: states of 2 and 3, P = 4, on one sheet with Q = 1 and parameters C1. While the first has a call open a sheet change through either side is refused by 3, before 1 and 5, and the second's own settings are taken. Closed as C9 the first isn't stale;
--- Q set through the second marks neither, is read by the first and counts in the second's prediction: 3, 5, 1 propagated have P = 4 + 9. Parameters refused by 6 mark neither, and taken they mark both, through whichever side.
+-- A4 through the calls: states of 2 and 3 with P = 4 and 16, on one sheet with Q = 1 and parameters C1. While a side has a call open a sheet change through either is refused by 3, before 1 and 5, and the other side's own calls are taken. Propagated 2, 4, 0 the first has P = 4 + 1,
+-- and 5, 9, 1 the second 16 + 1. Q set through the second marks neither and is read by the first. Parameters refused by 6 mark neither; alpha = 2, so that N = 4, marks both, and the second draws 5, 5 ± 2·4 from its P = 16. A turn through the second marks both; by it the first's prediction is C12's, P = 100 + 9.
 abbrev pub both : Pair
-both = newPairAnswer binary64 1 (int 2 ∷ []) (int 4 ∷ []) (int 3 ∷ []) (int 4 ∷ []) (int 1 ∷ []) c1 .pair
+both = newPairAnswer binary64 1 (int 2 ∷ []) (int 4 ∷ []) (int 3 ∷ []) (int 16 ∷ []) (int 1 ∷ []) c1 .pair
 
 abbrev pub pairStory : List (String × (SideCall × Told))
 pairStory =
     ("A4 the first opens", (by First (setting (open-prediction three)), telling 0 (int 2 ∷ int 4 ∷ int 0 ∷ []) (int 2) (int 4) true))
-    ∷ ("A4 the partner open", (by Second (writing (set-q (int 9 ∷ []))), telling 3 [] (int 3) (int 4) true))
-    ∷ ("A4 before 1 and 5", (by Second (writing (set-kind 7 (record { residual = Turn nan }))), telling 3 [] (int 3) (int 4) true))
+    ∷ ("A4 the partner open", (by Second (writing (set-q (int 9 ∷ []))), telling 3 [] (int 3) (int 16) true))
+    ∷ ("A4 before 1 and 5", (by Second (writing (set-kind 7 (record { residual = Turn nan }))), telling 3 [] (int 3) (int 16) true))
     ∷ ("A4 itself open", (by First (writing (set-params c1)), telling 3 [] (int 2) (int 4) true))
-    ∷ ("A4 its own x", (by Second (setting (set-x (int 3 ∷ []))), telling 0 [] (int 3) (int 4) true))
-    ∷ ("A4 both open", (by Second (setting (open-prediction three)), telling 0 (int 3 ∷ int 5 ∷ int 1 ∷ []) (int 3) (int 4) true))
+    ∷ ("A4 its own x", (by Second (setting (set-x (int 5 ∷ []))), telling 0 [] (int 5) (int 16) true))
+    ∷ ("A4 both open", (by Second (setting (open-prediction three)), telling 0 (int 5 ∷ int 9 ∷ int 1 ∷ []) (int 5) (int 16) true))
     ∷ ("A4 the first closes", (by First (closing (close-prediction (int 2 ∷ int 4 ∷ int 0 ∷ []))), telling 0 [] (int 2) (int 5) false))
-    ∷ ("A4 the second abandons", (by Second abandon, telling 0 [] (int 3) (int 4) true))
-    ∷ ("A4 Q through the second", (by Second (writing (set-q (int 9 ∷ []))), telling 0 [] (int 3) (int 4) true))
-    ∷ ("A4 Q marks neither", (by First (reading read-stale), marking (int 2) (int 5) false))
+    ∷ ("A4 the second still open", (by First (writing (set-q (int 9 ∷ []))), telling 3 [] (int 2) (int 5) false))
+    ∷ ("A4 the second closes", (by Second (closing (close-prediction (int 5 ∷ int 9 ∷ int 1 ∷ []))), telling 0 [] (int 5) (int 17) false))
+    ∷ ("A4 Q through the second", (by Second (writing (set-q (int 9 ∷ []))), telling 0 [] (int 5) (int 17) false))
     ∷ ("A4 Q read by the first", (by First (reading (read-q three)), telling 0 (int 9 ∷ []) (int 2) (int 5) false))
-    ∷ ("A4 the second opens", (by Second (setting (open-prediction three)), telling 0 (int 3 ∷ int 5 ∷ int 1 ∷ []) (int 3) (int 4) true))
-    ∷ ("A4 predicted by that Q", (by Second (closing (close-prediction (int 3 ∷ int 5 ∷ int 1 ∷ []))), telling 0 [] (int 3) (int 13) false))
     ∷ ("A4 a refusal marks nobody", (by First (writing (set-params c4)), telling 6 [] (int 2) (int 5) false))
-    ∷ ("A4 not the partner", (by Second (reading read-stale), marking (int 3) (int 13) false))
-    ∷ ("A4 parameters mark both", (by First (writing (set-params c1)), telling 0 [] (int 2) (int 5) true))
-    ∷ ("A4 the partner too", (by Second (reading read-stale), marking (int 3) (int 13) true))
+    ∷ ("A4 not the partner", (by Second (reading read-stale), marking (int 5) (int 17) false))
+    ∷ ("A4 a correction open", (by Second (setting (open-correction three)), telling 0 (int 5 ∷ int 9 ∷ int 1 ∷ []) (int 5) (int 17) false))
+    ∷ ("A4 the other one too", (by First (setting (open-correction three)), telling 0 (int 2 ∷ int 4 ∷ int 0 ∷ []) (int 2) (int 5) false))
+    ∷ ("A4 both corrections bar", (by First (writing (set-params c1)), telling 3 [] (int 2) (int 5) false))
+    ∷ ("A4 corrected as C10", (by First (measuring (int 3) (int 2 ∷ int 4 ∷ int 0 ∷ [])), telling 0 [] (frac 9 4) (int 4) true))
+    ∷ ("A4 given up", (by Second abandon, telling 0 [] (int 5) (int 17) false))
+    ∷ ("A4 P of the second", (by Second (setting (set-p (int 16 ∷ []))), telling 0 [] (int 5) (int 16) true))
+    ∷ ("A4 alpha through the first", (by First (writing (set-params (params (int 2) (int 0) (int 0)))), telling 0 [] (frac 9 4) (int 4) true))
+    ∷ ("A4 drawn by the new alpha", (by Second (setting (open-prediction three)), telling 0 (int 5 ∷ int 13 ∷ minus 3 ∷ []) (int 5) (int 16) true))
+    ∷ ("A4 given up again", (by Second abandon, telling 0 [] (int 5) (int 16) true))
+    ∷ ("A4 alpha 1 again", (by Second (writing (set-params c1)), telling 0 [] (int 5) (int 16) true))
+    ∷ ("A4 the first predicts", (by First (setting (open-prediction three)), telling 0 (frac 9 4 ∷ frac 17 4 ∷ frac 1 4 ∷ []) (frac 9 4) (int 4) true))
+    ∷ ("A4 and isn't stale", (by First (closing (close-prediction (int 2 ∷ int 4 ∷ int 0 ∷ []))), telling 0 [] (int 2) (int 13) false))
+    ∷ ("A4 a turn through the second", (by Second (writing (set-kind 0 (record { residual = Turn (int 180) }))), telling 0 [] (int 5) (int 16) true))
+    ∷ ("A4 it marks the first", (by First (reading read-stale), marking (int 2) (int 13) true))
+    ∷ ("A4 P of the first", (by First (setting (set-p (int 4 ∷ []))), telling 0 [] (int 2) (int 4) true))
+    ∷ ("A4 the first opens again", (by First (setting (open-prediction three)), telling 0 (int 2 ∷ int 4 ∷ int 0 ∷ []) (int 2) (int 4) true))
+    ∷ ("A4 predicted by the turn", (by First (closing (close-prediction (int 179 ∷ minus 171 ∷ int 169 ∷ []))), telling 0 [] (int 179) (int 109) false))
+    ∷ ("A4 the second as it was", (by Second (reading (read-points three)), telling 4 [] (int 5) (int 16) true))
     ∷ []
+
+-- New of a pair: a short P of the second comes before a number of the first, and each refused one leaves both sides empty
+abbrev pub newPairIs : List Float → List Float → List Float → List Float → Params → ℕ → Bool
+newPairIs x₁ p₁ x₂ p₂ par number = let a = newPairAnswer binary64 1 x₁ p₁ x₂ p₂ (int 1 ∷ []) par in eqb (a .refusal) number && eqb (a .pair .sheet .n) 0
 
 abbrev pub agrees : Told → Told → Bool
 agrees t e =
@@ -240,7 +258,11 @@ abbrev pub settingCases : List (String × Bool)
 settingCases = against settingStory (told binary64 at-first (map (λ e. e .1 .0) settingStory))
 
 abbrev pub pairCases : List (String × Bool)
-pairCases = against pairStory (map (λ t. t .told) (pairTold binary64 both (map (λ e. e .1 .0) pairStory)))
+pairCases =
+    ("A4 New, a short P and a number", newPairIs (nan ∷ []) (int 4 ∷ []) (int 3 ∷ []) [] c4 2)
+    ∷ ("A4 New, a number and parameters", newPairIs (int 2 ∷ []) (int 4 ∷ []) (int 3 ∷ []) (nan ∷ []) c4 5)
+    ∷ ("A4 New, parameters", newPairIs (int 2 ∷ []) (int 4 ∷ []) (int 3 ∷ []) (int 4 ∷ []) c4 6)
+    ∷ against pairStory (map (λ t. t .told) (pairTold binary64 both (map (λ e. e .1 .0) pairStory)))
 
 abbrev pub cases : List (String × Bool)
 cases = leafCases ++ (callCases ++ (flatCases ++ (settingCases ++ pairCases)))

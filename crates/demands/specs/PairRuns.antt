@@ -5,8 +5,10 @@ use mathlib.Core.Bool.{Bool, true, false, not, _&&_, _||_, cond}
 use mathlib.Core.List.{List, [], _∷_, _++_}
 use lib.Ieee.{Format}
 use Rattle.floats.specs.Refusal.{STAGE, refused}
+use Rattle.filter.specs.declared.Sheet.{Sheet}
+use Rattle.filter.specs.declared.Track.{Track}
 use Rattle.filter.specs.declared.Filter.{Filter}
-use Rattle.filter.specs.Filters.{isShut}
+use Rattle.filter.specs.Filters.{track, filter, isShut}
 use Rattle.filter.specs.Calls.{SheetCall, SetCall, Call, writing, setting, closing, abandon, reading}
 use Rattle.filter.specs.Steps.{Stepped, stepped, step}
 use Rattle.pairs.specs.declared.Pair.{Pair}
@@ -14,6 +16,7 @@ use Rattle.pairs.specs.declared.Side.{Side}
 use Rattle.pairs.specs.declared.Side.the-variants.{First, Second}
 use Rattle.pairs.specs.Pairs.{trackAt, solo, onSheet, PairStepped, pairStep}
 use Rattle.demands.specs.Runs.{Told, tells, AlikeTracks}
+use Rattle.demands.specs.Settings.{sheetMarks}
 
 abbrev pub other : Side → Side
 other First = Second
@@ -94,7 +97,7 @@ module _ (f : Format) where
       let u = pairStep f p (t .side) (t .call) in
       cond (same (t .side) w) (cond (barred p w (t .call)) turned-away (own (t .call)) ∷ []) (fromPartner (t .call) (u .reply .refusal)) ++ hears w (u .pair) ts
 
-  -- a filter alone that is given these, and what it tells at its own calls
+  -- a filter alone that is given these, and what it tells at its own calls, those turned away among them
   unfoldable pub aloneTold : Filter → List Heard → List Told
   unfolding step
   aloneTold s [] = []
@@ -102,9 +105,49 @@ module _ (f : Format) where
   aloneTold s (turned-away ∷ hs) = tells (stepped s (refused STAGE)) ∷ aloneTold s hs
   aloneTold s (wrote c ∷ hs) = aloneTold (step f s (writing c) .filter) hs
 
+-- The same by what stands on the sheet: at a call of its own a side meets the sheet's contents, the mark that a change by the partner may have set since its last call, and whether the partner's open call turns it away.
+pub record Noticed : Type 0 where
+  pub call : Call
+  pub sheet : Sheet
+  pub mark : Bool
+  pub turned : Bool
+
+-- whether a call of the partner that has come to the number r has marked
+abbrev pub marksBy : Call → ℕ → Bool
+marksBy (writing c) zero = sheetMarks c
+marksBy (writing c) (suc r) = false
+marksBy (setting c) r = false
+marksBy (closing c) r = false
+marksBy abandon r = false
+marksBy (reading c) r = false
+
+-- a track with a mark, if there is one
+abbrev pub remarked : Bool → Track → Track
+remarked m t = track (t .x) (t .p) (t .weights) (t .points) (m || t .stale) (t .stage) (t .«drawn_weights») (t .«drawn_points»)
+
+module _ (f : Format) where
+  -- m: the mark so far
+  unfoldable pub notices : Side → Bool → Pair → List SideCall → List Noticed
+  unfolding pairStep
+  notices w m p [] = []
+  notices w m p (t ∷ ts) =
+      let u = pairStep f p (t .side) (t .call) in
+      cond (same (t .side) w)
+      (record { call = t .call; sheet = p .sheet; mark = m; turned = barred p w (t .call) } ∷ notices w false (u .pair) ts)
+      (notices w (m || marksBy (t .call) (u .reply .refusal)) (u .pair) ts)
+
+  -- a track that meets these, and what it tells
+  unfoldable pub meetingTold : Track → List Noticed → List Told
+  unfolding step
+  meetingTold t [] = []
+  meetingTold t (k ∷ ks) =
+      let s = filter (k .sheet) (remarked (k .mark) t) in
+      let u = cond (k .turned) (stepped s (refused STAGE)) (step f s (k .call)) in
+      tells u ∷ meetingTold (u .filter .track) ks
+
 -- ---- demand 3
 
--- two pairs that agree on the sheet, and side by side are stale with nothing open and have the same state and covariance, whatever their points, weights and scratch
+-- two pairs that agree on the sheet; the four sides are stale with nothing open, and firsts and seconds have the same state and covariance, whatever their points, weights and scratch
 pub record AlikePairs (p q : Pair) : Type 0 where
   pub sheet : p .sheet ≡ q .sheet
   pub first : AlikeTracks (p .first) (q .first)
@@ -121,8 +164,9 @@ Striking = Side → Bool
 abbrev pub nobody : Striking
 nobody w = false
 
-abbrev pub now : Side → Bool → Striking → Striking
-now w t b v = cond (same w v) t (b v)
+-- the same with t for side w
+abbrev pub updated : Side → Bool → Striking → Striking
+updated w t b v = cond (same w v) t (b v)
 
 module _ (f : Format) where
   -- The second list is the first with some refused calls struck out, and some opens with all that side's calls up to its abandon.
@@ -137,13 +181,13 @@ module _ (f : Format) where
         → PairStruck b (pairStep f p w c .pair) cs ds → PairStruck b p (by w c ∷ cs) ds
     open-struck :
         {b : Striking} {p : Pair} {w : Side} {c : SetCall} {cs ds : List SideCall} → b w ≡ false → isShut (trackAt p w .stage) ≡ true → isShut (trackAt (pairStep f p w (setting c) .pair) w .stage) ≡ false
-        → PairStruck (now w true b) (pairStep f p w (setting c) .pair) cs ds → PairStruck b p (by w (setting c) ∷ cs) ds
+        → PairStruck (updated w true b) (pairStep f p w (setting c) .pair) cs ds → PairStruck b p (by w (setting c) ∷ cs) ds
     own-struck :
         {b : Striking} {p : Pair} {w : Side} {c : Call} {cs ds : List SideCall} → b w ≡ true → isShut (trackAt (pairStep f p w c .pair) w .stage) ≡ false
         → PairStruck b (pairStep f p w c .pair) cs ds → PairStruck b p (by w c ∷ cs) ds
     abandon-struck :
         {b : Striking} {p : Pair} {w : Side} {cs ds : List SideCall} → b w ≡ true
-        → PairStruck (now w false b) (pairStep f p w abandon .pair) cs ds → PairStruck b p (by w abandon ∷ cs) ds
+        → PairStruck (updated w false b) (pairStep f p w abandon .pair) cs ds → PairStruck b p (by w abandon ∷ cs) ds
 
   -- what the run of the first list tells at the calls that are not struck
   unfoldable pub pairRest : {b : Striking} {p : Pair} {cs ds : List SideCall} → PairStruck b p cs ds → List SideTold

@@ -1,4 +1,4 @@
--- The table of refusals in document 01's own words (10 is document 02's), and when a number is due. Definitions only.
+-- The table of refusals in document 01's own words (10 is document 02's; that 3 is wider on a pair is in what a call on a side asks, `pairFits`), and when a number is due. Definitions only.
 use Prim.Native.Nat.{ℕ, _+_, _*_, _<_, _≤_}
 use mathlib.Core.Path.{_≡_}
 use mathlib.Core.Bool.{true, false}

@@ -101,6 +101,6 @@ module _ (f : Format) (n : ℕ) where
   abbrev pub newAnswer : List Float → List Float → List Float → Params → Answer
   newAnswer x p q params = record { filter = or empty (newOf x p q params); refusal = refusal (newOf x p q params) }
 
--- of the numbers that two parts of a New give the one that comes first in the order (1, 2, 5, 6: that of the numbers), and 0 where both are
+-- of the numbers that two parts of a New give the one that comes first in the order (1, 2, 5, 6: that of the numbers); 0 where both are 0
 unfoldable pub sooner : ℕ → ℕ → ℕ
 sooner a b = cond (eqb a 0) b (cond (eqb b 0) a (cond (ltb b a) b a))

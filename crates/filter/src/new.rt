@@ -117,7 +117,7 @@ impl Track {
     }
 }
 
-// Of the numbers that two parts of a New give the one that comes first in the order 1, 2, 5, 6; 0 where both are.
+// Of the numbers that two parts of a New give the one that comes first in the order 1, 2, 5, 6; 0 where both are 0.
 pub fn sooner(a: u8, b: u8) -> u8
     ensures { λ r. ⌜ r ≡ sooner a b ⌝ }
 {

@@ -1,4 +1,4 @@
--- New of a pair: n, x and P of the first, x and P of the second, Q and the parameters, asked for in that order; refused, both are empty. Definitions only.
+-- New of a pair: n; x and P of the first, x and P of the second, Q and the parameters, searched in that order for each number of the table in turn; refused, both are empty. Definitions only.
 use Prim.Native.Nat.{ℕ}
 use mathlib.Core.List.{List, [], _∷_}
 use lib.Ieee.{Float, Format}
@@ -13,13 +13,13 @@ use Rattle.pairs.specs.Pairs.{pair}
 abbrev pub emptyPair : Pair
 emptyPair = pair emptySheet emptyTrack emptyTrack
 
-module _ (f : Format) (n : ℕ) (x₁ p₁ x₂ p₂ q : List Float) (params : Params) where
-  abbrev pub newPairAsks : Asks
-  newPairAsks = newAsks n (from x₁ p₁ ∷ from x₂ p₂ ∷ []) q params
+abbrev pub newPairAsks : ℕ → List Float → List Float → List Float → List Float → List Float → Params → Asks
+newPairAsks n x₁ p₁ x₂ p₂ q params = newAsks n (from x₁ p₁ ∷ from x₂ p₂ ∷ []) q params
 
+module _ (f : Format) (n : ℕ) (x₁ p₁ x₂ p₂ q : List Float) (params : Params) where
   unfoldable pub newPairOf : Outcome Pair
   unfolding guarded
-  newPairOf = guarded f newPairAsks (accepted (pair (sheetFrom n q params) (trackFrom n (from x₁ p₁)) (trackFrom n (from x₂ p₂))))
+  newPairOf = guarded f (newPairAsks n x₁ p₁ x₂ p₂ q params) (accepted (pair (sheetFrom n q params) (trackFrom n (from x₁ p₁)) (trackFrom n (from x₂ p₂))))
 
   abbrev pub newPairAnswer : PairAnswer
   newPairAnswer = record { pair = or emptyPair newPairOf; refusal = refusal newPairOf }

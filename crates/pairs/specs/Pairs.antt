@@ -1,4 +1,4 @@
--- Pairs: one sheet and two tracks. A track with the sheet is a filter, and a call on a side is that filter's call; a change of the sheet reaches both tracks. Definitions only.
+-- Pairs: one sheet and two tracks. A track with the sheet is a filter, and a call on a side is that filter's call; but a change of the sheet waits for both sides, and reaches both. Definitions only.
 use mathlib.Core.Bool.{Bool, true, false, _&&_, cond}
 use lib.Dec.{eqb}
 use lib.Ieee.{Format}
@@ -68,7 +68,7 @@ pub record PairStepped : Type 0 where
   pub pair : Pair
   pub reply : Reply
 
--- a call tells what it tells of that filter
+-- a call tells what it has come to, as a filter's call does
 unfoldable pub pairStep : Format → Pair → Side → Call → PairStepped
 unfolding guarded run
 pairStep f p w c = let o = pairOutcome f p w c in record { pair = leaves c p w o; reply = stepped (solo p w) o .reply }

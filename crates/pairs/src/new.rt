@@ -1,4 +1,4 @@
-// New of a pair: from n, x and P of the first, x and P of the second, Q and the parameters, asked for in that order; refused, both are empty.
+// New of a pair: from n; x and P of the first, x and P of the second, Q and the parameters, searched in that order for each number of the table in turn; refused, both are empty.
 ghost use mathlib.Core.Path.{_≡_};
 ghost use lib.Ieee.{binary64};
 ghost use Rattle.pairs.specs.NewPair.{newPairAnswer};

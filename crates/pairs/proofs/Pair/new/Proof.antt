@@ -36,7 +36,7 @@ numberOfSheet t = t .refusal
 abbrev start : tie.After-sooner2 → tie.Start
 start c = c .before .before .before .before .before .before .before .before .before .before
 
-abbrev asked : (c : tie.After-sooner2) → let a = start c .args in Gives binary64 (newPairAsks binary64 (a .n) (now (a .x1)) (now (a .p1)) (now (a .x2)) (now (a .p2)) (now (a .q)) (a .params))
+abbrev asked : (c : tie.After-sooner2) → let a = start c .args in Gives binary64 (newPairAsks (a .n) (now (a .x1)) (now (a .p1)) (now (a .x2)) (now (a .p2)) (now (a .q)) (a .params))
 asked c =
     record {
       number = _;
