@@ -137,6 +137,14 @@ stage-of f p w (closing c) = rw (reply-is f p w (closing c), solo-is f p w (clos
 stage-of f p w abandon = rw (reply-is f p w abandon, solo-is f p w abandon refl) (stage-exactly f (solo p w) abandon)
 stage-of f p w (reading c) = rw (reply-is f p w (reading c), solo-is f p w (reading c) refl) (stage-exactly f (solo p w) (reading c))
 
+-- so a sheet change is refused while a side has a call open
+pub open-refuses : (f : Format) (p : Pair) (v w : Side) (c : Call) → onSheet c ≡ true → isShut (trackAt p w .stage) ≡ false → pairStep f p v c .reply .refusal ≢ 0
+open-refuses f p v w c s h z = let n = stage-of f p v c .1 (rw s (one-open w h)) in omega (arith, n, z)
+  where
+    one-open : (u : Side) → isShut (trackAt p u .stage) ≡ false → neitherOpen p ≡ false
+    one-open First k = rw k
+    one-open Second k = rw k (and-false (isShut (p .first .stage)))
+
 -- a sheet change is the same whichever side it comes through
 pub sheet-either : (f : Format) (p : Pair) (c : SheetCall) → pairStep f p First (writing c) ≡ pairStep f p Second (writing c)
 unfolding pairStep

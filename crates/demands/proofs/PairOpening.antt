@@ -1,20 +1,19 @@
 -- A side's open call struck up to its abandon, in the customer's words: with all the calls that reach that side; the partner's other calls stay. Assumes nothing.
-use native.Mathlib.Omega.{arith}
 use mathlib.Core.Path.{_≡_, refl, sym, ap, _∙_, subst, fun-ext}
-use mathlib.Core.Bool.{Bool, true, false, cond, and-false}
+use mathlib.Core.Bool.{Bool, true, false, cond}
 use mathlib.Core.List.{List, [], _∷_, _++_}
 use lib.Ieee.{Format}
 use Rattle.filter.specs.declared.Filter.{Filter}
 use Rattle.filter.specs.Filters.{isShut, abandoned}
-use Rattle.filter.specs.Calls.{SetCall, Call, writing, setting, closing, abandon, reading}
+use Rattle.filter.specs.Calls.{SetCall, Call, setting, abandon}
 use Rattle.filter.specs.Steps.{step}
 use Rattle.pairs.specs.declared.Pair.{Pair}
 use Rattle.pairs.specs.declared.Side.{Side}
 use Rattle.pairs.specs.declared.Side.the-variants.{First, Second}
-use Rattle.pairs.specs.Pairs.{trackAt, solo, onSheet, neitherOpen, pairStep}
+use Rattle.pairs.specs.Pairs.{trackAt, solo, onSheet, pairStep}
 use Rattle.demands.specs.PairRuns.{same, SideCall, by, reaches, Striking, nobody, updated, PairStruck, call-kept, refused-struck, open-struck, own-struck, abandon-struck, pairRan, OpenThrough, unreaching}
 use Rattle.demands.proofs.Rows.{two-ways}
-use Rattle.demands.proofs.PairExactly.{sheet-stage}
+use Rattle.demands.proofs.PairExactly.{open-refuses}
 use Rattle.demands.proofs.PairStriking.{same-is, own-moved, open-pair}
 use Rattle.demands.proofs.PairSteps.{unreached, refused-whole}
 use Rattle.demands.proofs.Leftover.{opens, abandon-open}
@@ -34,18 +33,6 @@ module _ (f : Format) (w : Side) where
   open-now p [] h = h
   open-now p (t ∷ ts) h = h .0
 
-  -- a sheet change of the partner is refused meanwhile
-  barred-refused : (p : Pair) (v : Side) (c : Call) → same v w ≡ false → onSheet c ≡ true → isShut (trackAt p w .stage) ≡ false → pairStep f p v c .reply .refusal ≡ 0 → ⊥
-  barred-refused p v (writing c) e s h z = let n = sheet-stage f p v c .1 (shut-no-more w h) in omega (arith, n, z)
-    where
-      shut-no-more : (u : Side) → isShut (trackAt p u .stage) ≡ false → neitherOpen p ≡ false
-      shut-no-more First k = rw k
-      shut-no-more Second k = rw k (and-false (isShut (p .first .stage)))
-  barred-refused p v (setting c) e s h z = two-ways s refl
-  barred-refused p v (closing c) e s h z = two-ways s refl
-  barred-refused p v abandon e s h z = two-ways s refl
-  barred-refused p v (reading c) e s h z = two-ways s refl
-
   -- a call that doesn't reach w may stay
   clear : (v : Side) (c : Call) → reaches v c w ≡ false → (u : Side) → reaches v c u ≡ true → updated w true nobody u ≡ false
   clear v c n u h = go (same w u) refl
@@ -63,7 +50,7 @@ module _ (f : Format) (w : Side) where
       go true b e s =
           let d = sym (same-is (t .side) w e) in
           rw e (own-struck (subst (λ (v : Side). updated w true nobody v ≡ true) d (updated-own w true nobody)) (subst (λ (v : Side). isShut (trackAt (pairStep f p (t .side) (t .call) .pair) v .stage) ≡ false) d i) k)
-      go false true e s = rw (e, s) (refused-struck (barred-refused p (t .side) (t .call) e s h) k)
+      go false true e s = rw (e, s) (refused-struck (open-refuses f p (t .side) w (t .call) s h) k)
       go false false e s = rw (e, s) (call-kept (clear (t .side) (t .call) (rw (e, s))) k)
 
   module _ (cs ds : List SideCall) where
@@ -89,7 +76,7 @@ module _ (f : Format) (w : Side) where
       go true b e s =
           let d = sym (same-is (t .side) w e) in
           open-pair f p (t .side) (t .call) (subst (λ (v : Side). isShut (trackAt p v .stage) ≡ false) d h) (subst (λ (v : Side). isShut (trackAt (pairStep f p (t .side) (t .call) .pair) v .stage) ≡ false) d i) w
-      go false true e s = ap (λ (q : Pair). solo q w) (refused-whole f p (t .side) (t .call) (barred-refused p (t .side) (t .call) e s h))
+      go false true e s = ap (λ (q : Pair). solo q w) (refused-whole f p (t .side) (t .call) (open-refuses f p (t .side) w (t .call) s h))
       go false false e s = unreached f p (t .side) (t .call) w (rw (e, s))
 
   all-left : (p : Pair) (mid : List SideCall) → OpenThrough f w p mid → solo (pairRan f p mid) w ≡ solo p w

@@ -18,16 +18,17 @@ use Rattle.demands.specs.Runs.{Told, tells}
 use Rattle.demands.specs.PairRuns.{other, same, SideCall, by, pairTells, pairTold, barred, AlikePairs, reaches, Striking, nobody, updated, PairStruck, none-left, call-kept, refused-struck, open-struck, own-struck, abandon-struck, pairRest}
 use Rattle.demands.proofs.Rows.{two-ways}
 use Rattle.demands.proofs.Leftover.{same-seen, same-told, alike-seen, abandoned-seen, open-same, opens, abandon-open}
+use Rattle.demands.proofs.PairExactly.{open-refuses}
 use Rattle.demands.proofs.PairSteps.{sideStep, side-barred, on-is, solo-is, reached, unreached, refused-whole}
 
 -- ---- two sides, of which the first's open call is being struck or not
 
-abbrev Tracks : Bool → Filter → Filter → Type 0
-Tracks false s t = seen s ≡ seen t
-Tracks true s t = (isShut (s .track .stage) ≡ false) × (inRange 1 8 (s .sheet .n) ≡ true) × (seen (abandoned s) ≡ seen t)
+abbrev Follows : Bool → Filter → Filter → Type 0
+Follows false s t = seen s ≡ seen t
+Follows true s t = (isShut (s .track .stage) ≡ false) × (inRange 1 8 (s .sheet .n) ≡ true) × (seen (abandoned s) ≡ seen t)
 
 abbrev Beside : Striking → Pair → Pair → Type 0
-Beside b p q = (w : Side) → Tracks (b w) (solo p w) (solo q w)
+Beside b p q = (w : Side) → Follows (b w) (solo p w) (solo q w)
 
 own-reached : (w : Side) (c : Call) → reaches w c w ≡ true
 own-reached First c = refl
@@ -39,13 +40,7 @@ same-is First Second h = absurd (two-ways h refl)
 same-is Second First h = absurd (two-ways h refl)
 same-is Second Second h = refl
 
-pub other-is : (v w : Side) → same v w ≡ false → other w ≡ v
-other-is First First h = absurd (two-ways refl h)
-other-is First Second h = refl
-other-is Second First h = refl
-other-is Second Second h = absurd (two-ways refl h)
-
-pub sheet-reached : (w : Side) (c : Call) (v : Side) → onSheet c ≡ true → reaches w c v ≡ true
+sheet-reached : (w : Side) (c : Call) (v : Side) → onSheet c ≡ true → reaches w c v ≡ true
 sheet-reached w c v h = rw h (either (same w v))
   where
     either : (b : Bool) → (b || true) ≡ true
@@ -99,7 +94,7 @@ module _ (f : Format) where
     kept-beside : Beside b (pairStep f p w c .pair) (pairStep f q w c .pair)
     kept-beside v = go (reaches w c v) refl
       where
-        go : (r : Bool) → reaches w c v ≡ r → Tracks (b v) (solo (pairStep f p w c .pair) v) (solo (pairStep f q w c .pair) v)
+        go : (r : Bool) → reaches w c v ≡ r → Follows (b v) (solo (pairStep f p w c .pair) v) (solo (pairStep f q w c .pair) v)
         go true h = rw (clear v h) (ap seen (reached f p w c v h) ∙ side-kept v h .1 ∙ ap seen (sym (reached f q w c v h)))
         go false h = rw (unreached f p w c v h, unreached f q w c v h) (beside v)
 
@@ -124,31 +119,15 @@ module _ (f : Format) where
 
     -- by a side whose call is open and stays so, it leaves both sides as they were
     pub open-pair : (c : Call) → isShut (trackAt p w .stage) ≡ false → isShut (trackAt (pairStep f p w c .pair) w .stage) ≡ false → (v : Side) → solo (pairStep f p w c .pair) v ≡ solo p v
-    open-pair c h k v = go (same w v) refl
+    open-pair c h k v = go (onSheet c) (same w v) refl refl
       where
-        at : Side → Bool → Stepped
-        at u b = cond b (stepped (solo p u) (refused STAGE)) (step f (solo p u) c)
-
-        mine : (b : Bool) → isShut (at w b .filter .track .stage) ≡ false → at w b .filter ≡ solo p w
-        mine true o = refl
-        mine false o = open-same f (solo p w) c h o
-
-        left : (u : Side) → reaches w c u ≡ true → solo (pairStep f p w c .pair) u ≡ at u (barred p u c) .filter
-        left u r = reached f p w c u r ∙ ap (λ (t : Stepped). t .filter) (side-barred f p u c)
-
-        theirs : (b : Bool) → onSheet c ≡ b → same w v ≡ false → solo (pairStep f p w c .pair) v ≡ solo p v
-        theirs true s e =
-            let d = other-is w v e in
-            let n : barred p v c ≡ true = rw (s, d, h) in
-            left v (sheet-reached w c v s) ∙ ap (λ (t : Bool). at v t .filter) n
-        theirs false s e = unreached f p w c v (rw (e, s))
-
-        go : (b : Bool) → same w v ≡ b → solo (pairStep f p w c .pair) v ≡ solo p v
-        go true e =
+        go : (a b : Bool) → onSheet c ≡ a → same w v ≡ b → solo (pairStep f p w c .pair) v ≡ solo p v
+        go true b s e = ap (λ (q : Pair). solo q v) (refused-whole f p w c (open-refuses f p w w c s h))
+        go false true s e =
             let d = same-is w v e in
-            let m = left w (own-reached w c) in
-            rw (← d) (m ∙ mine (barred p w c) (ap (λ (s : Filter). isShut (s .track .stage)) (sym m) ∙ k))
-        go false e = theirs (onSheet c) refl e
+            let m = own-moved c s in
+            rw (← d) (m ∙ open-same f (solo p w) c h (ap (λ (t : Filter). isShut (t .track .stage)) (sym m) ∙ k))
+        go false false s e = unreached f p w c v (rw (e, s))
 
     -- ---- beside another run
 
@@ -157,10 +136,10 @@ module _ (f : Format) where
       left-beside c e v = rw (e v) (beside v)
 
       -- of w alone: a call that is not on the sheet
-      moved-beside : (c : Call) (t : Bool) → onSheet c ≡ false → Tracks t (solo (pairStep f p w c .pair) w) (solo q w) → Beside (updated w t b) (pairStep f p w c .pair) q
+      moved-beside : (c : Call) (t : Bool) → onSheet c ≡ false → Follows t (solo (pairStep f p w c .pair) w) (solo q w) → Beside (updated w t b) (pairStep f p w c .pair) q
       moved-beside c t s o v = go (same w v) refl
         where
-          go : (r : Bool) → same w v ≡ r → Tracks (cond (same w v) t (b v)) (solo (pairStep f p w c .pair) v) (solo q v)
+          go : (r : Bool) → same w v ≡ r → Follows (cond (same w v) t (b v)) (solo (pairStep f p w c .pair) v) (solo q v)
           go true e = let d = same-is w v e in rw e (rw (← d) o)
           go false e = rw (e, unreached f p w c v (rw (e, s))) (beside v)
 
@@ -173,11 +152,11 @@ module _ (f : Format) where
           moved-beside (setting c) true refl (k, rw m (o .1), ap (λ (s : Filter). seen (abandoned s)) m ∙ ap seen (o .0) ∙ abandoned-seen (solo p w) h ∙ e)
 
       open-still : b w ≡ true → isShut (trackAt p w .stage) ≡ false
-      open-still i = let t : Tracks true (solo p w) (solo q w) = rw i at (beside w) in t .0
+      open-still i = let t : Follows true (solo p w) (solo q w) = rw i at (beside w) in t .0
 
       abandoned-beside : b w ≡ true → Beside (updated w false b) (pairStep f p w abandon .pair) q
       abandoned-beside i =
-          let t : Tracks true (solo p w) (solo q w) = rw i at (beside w) in
+          let t : Follows true (solo p w) (solo q w) = rw i at (beside w) in
           moved-beside abandon false refl (ap seen (own-moved abandon refl ∙ abandon-open f (solo p w) (t .0) (t .1)) ∙ t .2)
 
   -- ---- STRIKING CHANGES NONE OF THE REST
