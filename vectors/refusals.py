@@ -529,7 +529,7 @@ SIDE = [
     '# all calls of the solo filter above once more on side 2 of a pair whose side 1 has nothing open, from the empty pair on; the answers are the same',
     ('newpair 0 [] [] [] [] [] 1.0 0.0 0.0', '1'),
     *on_side_two(CALLS),
-    '# of all that side 1 has the sheet and its marks, the solo filter nothing',
+    '# of all this the sheet and its marks have come to side 1, and nothing to the solo filter',
     ('@1 dump', '0 n 1 x 5.0 P 1.0 Q 1.0 par 1.0 1.0 0.0 kinds t 2.0 w 0.0 0.0 pts 0.0 0.0 0.0 stale 1 open - dw 0.0 0.0 dpts 0.0 0.0 0.0'),
     ('dump', '0 n 1 x 3.0 P 4.0 Q 8.0 par 1.0 2.0 1.0 kinds t 180.0 w 0.0 0.0 pts 0.0 0.0 0.0 stale 1 open - dw 0.0 0.0 dpts 0.0 0.0 0.0'),
 ]

@@ -1,5 +1,5 @@
 -- Nothing left over counts on a pair: a run on two alike pairs tells the same; and striking refused calls, or a side's open with its calls up to its abandon, changes none of the rest.
--- Two runs are held beside each other side by side: of a side whose open call is being struck, abandoned it would be seen as the other run's. Assumes nothing.
+-- The two runs are compared at each side of the pair: a side whose open call is being struck would, abandoned now, be seen as it stands in the other run. Assumes nothing.
 use mathlib.Core.Path.{_≡_, refl, sym, ap, ap₂, _∙_}
 use mathlib.Core.Bool.{Bool, true, false, not, _&&_, _||_, cond}
 use mathlib.Core.List.{List, [], _∷_}

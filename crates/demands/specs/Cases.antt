@@ -162,7 +162,7 @@ settingStory =
     ∷ []
 
 -- A4 through the calls: states of 2 and 3 with P = 4 and 16, on one sheet with Q = 1 and parameters C1. While a side has a call open a sheet change through either is refused by 3, before 1 and 5, and the other side's own calls are taken. Propagated 2, 4, 0 the first has P = 4 + 1,
--- and 5, 9, 1 the second 16 + 1. Q set through the second marks neither and is read by the first. Parameters refused by 6 mark neither; alpha = 2, so that N = 4, marks both, and the second draws 5, 5 ± 2·4 from its P = 16. A turn through the second marks both; by it the first's prediction is C12's, P = 100 + 9.
+-- and 5, 9, 1 the second 16 + 1. Q set through the second marks neither and is read by the first. Parameters refused by 6 mark neither; alpha = 2 through the first, so that N = 4, marks the second, which then draws 5, 5 ± 2·4 from P = 16. A turn through the second marks the first, and by it the first's prediction is C12's, P = 100 + 9.
 abbrev pub both : Pair
 both = newPairAnswer binary64 1 (int 2 ∷ []) (int 4 ∷ []) (int 3 ∷ []) (int 16 ∷ []) (int 1 ∷ []) c1 .pair
 
@@ -186,8 +186,9 @@ pairStory =
     ∷ ("A4 both corrections bar", (by First (writing (set-params c1)), telling 3 [] (int 2) (int 5) false))
     ∷ ("A4 corrected as C10", (by First (measuring (int 3) (int 2 ∷ int 4 ∷ int 0 ∷ [])), telling 0 [] (frac 9 4) (int 4) true))
     ∷ ("A4 given up", (by Second abandon, telling 0 [] (int 5) (int 17) false))
-    ∷ ("A4 P of the second", (by Second (setting (set-p (int 16 ∷ []))), telling 0 [] (int 5) (int 16) true))
     ∷ ("A4 alpha through the first", (by First (writing (set-params (params (int 2) (int 0) (int 0)))), telling 0 [] (frac 9 4) (int 4) true))
+    ∷ ("A4 it marks the second", (by Second (reading read-stale), marking (int 5) (int 17) true))
+    ∷ ("A4 P of the second", (by Second (setting (set-p (int 16 ∷ []))), telling 0 [] (int 5) (int 16) true))
     ∷ ("A4 drawn by the new alpha", (by Second (setting (open-prediction three)), telling 0 (int 5 ∷ int 13 ∷ minus 3 ∷ []) (int 5) (int 16) true))
     ∷ ("A4 given up again", (by Second abandon, telling 0 [] (int 5) (int 16) true))
     ∷ ("A4 alpha 1 again", (by Second (writing (set-params c1)), telling 0 [] (int 5) (int 16) true))

@@ -23,7 +23,7 @@ module _ (f : Format) where
     pair-new : (n : ℕ) (x₁ p₁ x₂ p₂ q : List Float) (params : Params) → PairReached (newPairAnswer f n x₁ p₁ x₂ p₂ q params .pair)
     pair-further : {p : Pair} → PairReached p → (w : Side) (c : Call) → PairReached (pairStep f p w c .pair)
 
-  -- the pairs that the demands speak of: those, and such pairs with points, weights and scratch put at will of a side, or of both, that is stale and has no call open
+  -- the pairs that the demands speak of: those, and such pairs in which a side that is stale with no call open, or both such sides, have points, weights and scratch put at will
   pub data PairYielded : Pair → Type 0 where
     pair-made : (n : ℕ) (x₁ p₁ x₂ p₂ q : List Float) (params : Params) → PairYielded (newPairAnswer f n x₁ p₁ x₂ p₂ q params .pair)
     pair-stepped : {p : Pair} → PairYielded p → (w : Side) (c : Call) → PairYielded (pairStep f p w c .pair)

@@ -39,7 +39,7 @@ isCorrecting Shut = false
 isCorrecting Predicting = false
 isCorrecting Correcting = true
 
--- the filter as a call may see it: the current points and weights only while not stale, the drawn ones only while a call is open
+-- a track as a call may see it: the current points and weights only while not stale, the drawn ones only while a call is open; and a filter, with its sheet
 abbrev pub seenOf : Track → Track
 seenOf t =
     track (t .x) (t .p) (cond (t .stale) [] (t .weights)) (cond (t .stale) [] (t .points)) (t .stale) (t .stage)
@@ -111,7 +111,7 @@ close c = track (c .x) (c .p) (c .installed .weights) (c .installed .points) (c 
 abbrev pub shut : Track → Track
 shut t = withDrawn t Shut nothingDrawn
 
--- a change, of its sheet and of its track
+-- what a change leaves of the sheet and of the track
 abbrev pub sheetAfter : Sheet → Change → Sheet
 sheetAfter s (writes c) = written s c
 sheetAfter s (sets c) = s

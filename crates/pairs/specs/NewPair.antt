@@ -1,4 +1,4 @@
--- New of a pair: n; x and P of the first, x and P of the second, Q and the parameters, searched in that order for each number of the table in turn; refused, both are empty. Definitions only.
+-- New of a pair: from n, x and P of the first, x and P of the second, Q and the parameters. Each number of the table is looked for in all of these, in that order, before the next one; refused, both sides are empty. Definitions only.
 use Prim.Native.Nat.{ℕ}
 use mathlib.Core.List.{List, [], _∷_}
 use lib.Ieee.{Float, Format}

@@ -1,4 +1,4 @@
--- Pairs: one sheet and two tracks. A track with the sheet is a filter, and a call on a side is that filter's call; but a change of the sheet waits for both sides, and reaches both. Definitions only.
+-- Pairs: one sheet and two tracks. A track with the sheet is a filter, and a call on a side is that filter's call; but a change of the sheet is taken only while neither side has a call open, and reaches both. Definitions only.
 use mathlib.Core.Bool.{Bool, true, false, _&&_, cond}
 use lib.Dec.{eqb}
 use lib.Ieee.{Format}
@@ -44,7 +44,7 @@ neitherOpen p = isShut (p .first .stage) && isShut (p .second .stage)
 abbrev pub pairFits : Pair → Side → Call → Bool
 pairFits p w c = cond (onSheet c) (neitherOpen p) (fits c (trackAt p w .stage))
 
--- that is asked, and the rest as of that filter
+-- what is asked: that, and the rest as of the side's filter
 abbrev pub pairAsks : Pair → Side → Call → Asks
 pairAsks p w c = asking (pairFits p w c) (p .sheet .n) (needs (seen (solo p w)) c)
 

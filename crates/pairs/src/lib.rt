@@ -9,7 +9,7 @@ pub mod readings;
 pub mod setters;
 mod sides;
 
-// One sheet and two tracks. A track with the sheet is a filter, and a call on a side is that filter's own call; but a change of the sheet waits for both sides.
+// One sheet and two tracks. A track with the sheet is a filter, and a call on a side is that filter's own call; but a change of the sheet is taken only while neither side has a call open, and reaches both.
 pub struct Pair {
     pub sheet: Sheet,
     pub first: Track,

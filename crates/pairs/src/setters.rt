@@ -1,4 +1,4 @@
-// Set x and P of a side; and Q, the parameters and a kind of the sheet, which names no side: it is the same change through either, refused by 3 while either has a call open.
+// Set x and P of a side; and Q, the parameters and a kind of the sheet. These three name no side: the change is the same through either, and refused by 3 while either has a call open.
 ghost use mathlib.Core.Path.{_≡_};
 ghost use lib.Ieee.{binary64};
 ghost use Rattle.filter.specs.Calls.{writing, setting, set-x, set-p, set-q, set-params, set-kind};
