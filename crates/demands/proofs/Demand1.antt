@@ -21,13 +21,13 @@ use Rattle.filter.specs.declared.Filter.{Filter}
 use Rattle.filter.specs.Filters.{seen}
 use Rattle.filter.specs.Calls.{Call, setting, closing, open-prediction, open-correction, close-prediction, close-correction, close-correction-flat, fits, asks, plan, weightedFrom, flatFrom}
 use Rattle.filter.specs.Steps.{step, paramsRead, staleRead}
-use Rattle.filter.specs.New.{empty, from, newAsks, newAnswer}
+use Rattle.filter.specs.New.{emptySheet, emptyTrack, empty, Start, from, newAsks, startAsks, newSheet, newTrack, newAnswer}
 use Rattle.filter.specs.Point.{pointAsks, pointRefusal, pointOf}
 use Rattle.demands.specs.Rows.{Some, NotFinite, NotAbove, Below, OutOfRange, IsTurn, IsFlat, Measurable, UnfitTurn, FirstFails, Cause, Applies, Due, ByStep, Neither}
 use Rattle.demands.specs.Listed.{listedAtOpen, listedAtPrediction, listedAtCorrection}
 use Rattle.demands.specs.Runs.{told}
 use Rattle.demands.specs.Sound.{Sound, Tidy, Reached, Yielded, handedOut, Each}
-use Rattle.demands.proofs.Exactly.{exactly, taken-exactly, new-exactly, new-taken, point-exactly, point-taken, wrap-exactly, wrap-taken, wrap-refused, root-exactly, kind-exactly, kind-taken, ends-so, refused-unwritten, refused-values, new-refused, point-refused}
+use Rattle.demands.proofs.Exactly.{exactly, taken-exactly, new-exactly, new-taken, new-track-exactly, new-sheet-exactly, point-exactly, point-taken, wrap-exactly, wrap-taken, wrap-refused, root-exactly, kind-exactly, kind-taken, ends-so, refused-unwritten, refused-values, new-refused, new-track-refused, new-sheet-refused, point-refused}
 use Rattle.demands.proofs.Listed.{open-prediction-lists, open-correction-lists, close-prediction-lists, close-correction-lists, close-correction-flat-lists}
 use Rattle.demands.proofs.Table.{steps-give, stage-exactly, states-first, kind-only, never-stale, never-param}
 use Rattle.demands.proofs.Turned.{turned-away-exactly}
@@ -56,6 +56,13 @@ module _ (f : Format) where
 
   pub new-taken-when : (n : ℕ) (x p q : List Float) (params : Params) → (newAnswer f n x p q params .refusal ≡ 0) ↔ ((d : Cause) → Applies f (newAsks n (from x p ∷ []) q params) [] d → ⊥)
   new-taken-when = new-taken f
+
+  -- of its parts by themselves, a track and a sheet,
+  pub track-exactly-when : (n : ℕ) (s : Start) (r : Refusal) → (newTrack f n s .refusal ≡ number r) ↔ Due f (startAsks n s) [] r
+  track-exactly-when = new-track-exactly f
+
+  pub sheet-exactly-when : (n : ℕ) (q : List Float) (params : Params) (r : Refusal) → (newSheet f n q params .refusal ≡ number r) ↔ Due f (newAsks n [] q params) [] r
+  sheet-exactly-when = new-sheet-exactly f
 
   -- of point k of a lent list,
   pub point-exactly-when : (l : List Float) (n k : ℕ) (r : Refusal) → (pointRefusal f l n k ≡ number r) ↔ Due f (pointAsks f l n k) [] r
@@ -156,9 +163,15 @@ module _ (f : Format) where
       → (paramsRead (step f s c .reply) .params ≡ record { alpha = plusZero; beta = plusZero; kappa = plusZero }) × (staleRead (step f s c .reply) .stale ≡ true)
   refused-reading = refused-values f
 
-  -- a refused New gives the empty filter, and a refused point an empty part.
+  -- a refused New gives the empty filter, a refused part of it that of the empty filter, and a refused point an empty part.
   pub refused-new : (n : ℕ) (x p q : List Float) (params : Params) → newAnswer f n x p q params .refusal ≢ 0 → newAnswer f n x p q params .filter ≡ empty
   refused-new = new-refused f
+
+  pub refused-track : (n : ℕ) (s : Start) → newTrack f n s .refusal ≢ 0 → newTrack f n s .track ≡ emptyTrack
+  refused-track = new-track-refused f
+
+  pub refused-sheet : (n : ℕ) (q : List Float) (params : Params) → newSheet f n q params .refusal ≢ 0 → newSheet f n q params .sheet ≡ emptySheet
+  refused-sheet = new-sheet-refused f
 
   pub refused-point : (l : List Float) (n k : ℕ) → pointRefusal f l n k ≢ 0 → pointOf f l n k ≡ []
   refused-point = point-refused f

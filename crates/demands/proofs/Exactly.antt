@@ -26,7 +26,7 @@ use Rattle.filter.specs.Asked.{Asks, within, long, fit, every, guarded}
 use Rattle.filter.specs.Filters.{seen}
 use Rattle.filter.specs.Calls.{Call, asks, Done, plan}
 use Rattle.filter.specs.Steps.{outcome, stepped, step, paramsOf, paramsRead, staleRead}
-use Rattle.filter.specs.New.{empty, from, newAsks, newOf, newAnswer}
+use Rattle.filter.specs.New.{emptySheet, emptyTrack, empty, Start, from, newAsks, startAsks, newSheetOf, newSheet, newTrackOf, newTrack, newOf, newAnswer}
 use Rattle.filter.specs.Point.{pointAsks, pointAt, pointRefusal, pointOf}
 use Rattle.demands.specs.Rows.{Some, here, there, NotFinite, NotAbove, Below, OutOfRange, Shorter, IsTurn, UnfitTurn, Unfit, FirstFails, Cause, stage, size, short, stale, met, gives, Applies, place, Due}
 use Rattle.demands.specs.Rows as Row
@@ -236,6 +236,15 @@ module _ (f : Format) where
     unfolding newOf
     new-taken = guarded-taken f (newAsks n (from x p ∷ []) q params) [] (accepted _) no-first
 
+  -- and its parts
+  pub new-track-exactly : (n : ℕ) (s : Start) (r : Refusal) → (newTrack f n s .refusal ≡ number r) ↔ Due f (startAsks n s) [] r
+  unfolding newTrackOf
+  new-track-exactly n s r = guarded-exactly f (startAsks n s) [] (accepted _) no-first r
+
+  pub new-sheet-exactly : (n : ℕ) (q : List Float) (params : Params) (r : Refusal) → (newSheet f n q params .refusal ≡ number r) ↔ Due f (newAsks n [] q params) [] r
+  unfolding newSheetOf
+  new-sheet-exactly n q params r = guarded-exactly f (newAsks n [] q params) [] (accepted _) no-first r
+
   module _ (l : List Float) (n k : ℕ) where
     pub point-exactly : (r : Refusal) → (pointRefusal f l n k ≡ number r) ↔ Due f (pointAsks f l n k) [] r
     unfolding pointRefusal
@@ -332,19 +341,24 @@ module _ (f : Format) (s : Filter) (c : Call) where
   pub refused-values : step f s c .reply .refusal ≢ 0 → (paramsRead (step f s c .reply) .params ≡ record { alpha = plusZero; beta = plusZero; kappa = plusZero }) × (staleRead (step f s c .reply) .stale ≡ true)
   refused-values h = let n = refused-nothing h in (ap paramsOf (n .1), n .2)
 
--- a refused New gives the empty filter
-pub new-refused : (f : Format) (n : ℕ) (x p q : List Float) (params : Params) → newAnswer f n x p q params .refusal ≢ 0 → newAnswer f n x p q params .filter ≡ empty
-new-refused f n x p q params = go (newOf f n x p q params)
-  where
-    go : (o : Outcome Filter) → refusal o ≢ 0 → or empty o ≡ empty
-    go (refused r) h = refl
-    go (accepted s) h = absurd (h refl)
+-- ---- what is refused is the empty one
+
+pub or-refused : {A : Type 0} (e : A) (o : Outcome A) → refusal o ≢ 0 → or e o ≡ e
+or-refused e (refused r) h = refl
+or-refused e (accepted a) h = absurd (h refl)
+
+-- a refused New gives the empty filter, and a refused part of one that of the empty filter
+module _ (f : Format) (n : ℕ) where
+  pub new-refused : (x p q : List Float) (params : Params) → newAnswer f n x p q params .refusal ≢ 0 → newAnswer f n x p q params .filter ≡ empty
+  new-refused x p q params = or-refused empty (newOf f n x p q params)
+
+  pub new-track-refused : (s : Start) → newTrack f n s .refusal ≢ 0 → newTrack f n s .track ≡ emptyTrack
+  new-track-refused s = or-refused emptyTrack (newTrackOf f n s)
+
+  pub new-sheet-refused : (q : List Float) (params : Params) → newSheet f n q params .refusal ≢ 0 → newSheet f n q params .sheet ≡ emptySheet
+  new-sheet-refused q params = or-refused emptySheet (newSheetOf f n q params)
 
 -- a refused point is an empty part
 pub point-refused : (f : Format) (l : List Float) (n k : ℕ) → pointRefusal f l n k ≢ 0 → pointOf f l n k ≡ []
 unfolding pointRefusal pointOf
-point-refused f l n k = go (pointAt f l n k)
-  where
-    go : (o : Outcome (List Float)) → refusal o ≢ 0 → or [] o ≡ []
-    go (refused r) h = refl
-    go (accepted v) h = absurd (h refl)
+point-refused f l n k = or-refused [] (pointAt f l n k)

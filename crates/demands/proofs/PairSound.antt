@@ -28,6 +28,7 @@ use Rattle.demands.specs.Runs.{tells}
 use Rattle.demands.specs.Sound.{Sound, Reached, made, further, Yielded, fresh-made, stepped-on, put-at-will, handedOut, Each, end, and}
 use Rattle.demands.specs.PairRuns.{SideCall, on, pairTells, pairTold, barred, reaches}
 use Rattle.demands.specs.PairSound.{AtWill, PairReached, pair-new, pair-further, PairYielded, pair-made, pair-stepped, pair-at-will}
+use Rattle.demands.proofs.Exactly.{or-refused}
 use Rattle.demands.proofs.Passed.{by-cases}
 use Rattle.demands.proofs.Arrays.{all-both, all-parts, filled-all}
 use Rattle.demands.proofs.Sound.{sound, tells-finite}
@@ -77,11 +78,7 @@ module _ (f : Format) where
           go (accepted p) s e = (ap answer (s .0), ap answer (s .1))
 
       pub new-empty : (newPairAnswer f n x₁ p₁ x₂ p₂ q params .refusal ≡ 0 → ⊥) → newPairAnswer f n x₁ p₁ x₂ p₂ q params .pair ≡ emptyPair
-      new-empty = go (newPairOf f n x₁ p₁ x₂ p₂ q params)
-        where
-          go : (o : Outcome Pair) → (refusal o ≡ 0 → ⊥) → or emptyPair o ≡ emptyPair
-          go (refused r) h = refl
-          go (accepted p) h = absurd (h refl)
+      new-empty = or-refused emptyPair (newPairOf f n x₁ p₁ x₂ p₂ q params)
 
       -- so what holds of whatever New gives holds of each
       new-holds : (P : Filter → Type 0) → ((m : ℕ) (x p r : List Float) (v : Params) → P (newAnswer f m x p r v .filter)) → (w : Side) → P (solo (newPairAnswer f n x₁ p₁ x₂ p₂ q params .pair) w)
