@@ -1,8 +1,8 @@
 -- Demand 1: a call ends with a result or one of the refusals, each exactly when its row says; what is refused changes nothing; every number handed out is finite. Over every format. Assumes nothing.
-use Prim.Native.Nat.{ℕ, _≤_}
+use Prim.Native.Nat.{ℕ, _*_, _≤_}
 use mathlib.Core.Path.{_≡_, refl}
 use mathlib.Core.Bool.{true, false, cond}
-use mathlib.Core.List.{List, [], _∷_}
+use mathlib.Core.List.{List, [], _∷_, _++_}
 use mathlib.Core.Logic.{_↔_, _≢_, _⊎_}
 use lib.ListN.{length, take}
 use lib.Ieee.{Float, Format, add}
@@ -18,6 +18,7 @@ use Rattle.sigma.specs.declared.Params.{Params}
 use Rattle.sigma.specs.Weights.{scaleOf, w0mOf}
 use Rattle.sigma.specs.Draw.{pointNumbers}
 use Rattle.filter.specs.declared.Filter.{Filter}
+use Rattle.filter.specs.Asked.{by-params}
 use Rattle.filter.specs.Filters.{seen}
 use Rattle.filter.specs.Calls.{Call, setting, closing, open-prediction, open-correction, close-prediction, close-correction, close-correction-flat, fits, asks, plan, weightedFrom, flatFrom}
 use Rattle.filter.specs.Steps.{step, paramsRead, staleRead}
@@ -50,14 +51,47 @@ module _ (f : Format) where
   pub taken-when : (s : Filter) (c : Call) → (step f s c .reply .refusal ≡ 0) ↔ ((d : Cause) → Applies f (asks (seen s) c) (planned (plan f (seen s) c)) d → ⊥)
   taken-when = taken-exactly f
 
-  -- The same of New, which has no steps,
+  -- The same of New, which has no steps. It asks for 1 to 8 states, for slices that are long enough, for finite numbers in x, P, Q and the parameters, and for parameters that pass 6;
+  pub new-asks : (n : ℕ) (x p q : List Float) (params : Params) → newAsks n (from x p ∷ []) q params ≡ record {
+    fits = true;
+    sizes = record { value = n; from = 1; to = 8 } ∷ [];
+    lent = record { slice = x; needs = n } ∷ record { slice = p; needs = n * n } ∷ record { slice = q; needs = n * n } ∷ [];
+    stale = false;
+    inputs = (take n x ++ take (n * n) p) ++ (take (n * n) q ++ (params .alpha ∷ params .beta ∷ params .kappa ∷ []));
+    plain = [];
+    params = by-params n params ∷ [];
+  }
+  new-asks n x p q params = refl
+
   pub new-exactly-when : (n : ℕ) (x p q : List Float) (params : Params) (r : Refusal) → (newAnswer f n x p q params .refusal ≡ number r) ↔ Due f (newAsks n (from x p ∷ []) q params) [] r
   new-exactly-when = new-exactly f
 
   pub new-taken-when : (n : ℕ) (x p q : List Float) (params : Params) → (newAnswer f n x p q params .refusal ≡ 0) ↔ ((d : Cause) → Applies f (newAsks n (from x p ∷ []) q params) [] d → ⊥)
   new-taken-when = new-taken f
 
-  -- of its parts by themselves, a track and a sheet,
+  -- of its parts by themselves, a track, which asks for n, x and P, and a sheet, which asks for n, Q and the parameters,
+  pub track-asks : (n : ℕ) (x p : List Float) → startAsks n (from x p) ≡ record {
+    fits = true;
+    sizes = record { value = n; from = 1; to = 8 } ∷ [];
+    lent = record { slice = x; needs = n } ∷ record { slice = p; needs = n * n } ∷ [];
+    stale = false;
+    inputs = take n x ++ take (n * n) p;
+    plain = [];
+    params = [];
+  }
+  track-asks n x p = refl
+
+  pub sheet-asks : (n : ℕ) (q : List Float) (params : Params) → newAsks n [] q params ≡ record {
+    fits = true;
+    sizes = record { value = n; from = 1; to = 8 } ∷ [];
+    lent = record { slice = q; needs = n * n } ∷ [];
+    stale = false;
+    inputs = take (n * n) q ++ (params .alpha ∷ params .beta ∷ params .kappa ∷ []);
+    plain = [];
+    params = by-params n params ∷ [];
+  }
+  sheet-asks n q params = refl
+
   pub track-exactly-when : (n : ℕ) (s : Start) (r : Refusal) → (newTrack f n s .refusal ≡ number r) ↔ Due f (startAsks n s) [] r
   track-exactly-when = new-track-exactly f
 

@@ -63,11 +63,11 @@ module _ (f : Format) where
       pub sheet-change-solo : isShut (p .first .stage) ≡ true → isShut (p .second .stage) ≡ true → (w v : Side) → (pairStep f p w (writing c) .reply ≡ step f (solo p v) (writing c) .reply) × (solo (pairStep f p w (writing c) .pair) v ≡ step f (solo p v) (writing c) .filter)
       sheet-change-solo = sheet-solo f p c
 
-      -- accepted, it holds for both: it writes the sheet, marks the tracks, and leaves all else of them as it was;
+      -- accepted, it holds for both: it writes the sheet, and leaves both tracks as they were but for the mark,
       pub sheet-change : (w : Side) → pairStep f p w (writing c) .reply .refusal ≡ 0 → let u = writingOf (p .sheet) c in pairStep f p w (writing c) .pair ≡ pair (written (p .sheet) u) (marked (p .first) u) (marked (p .second) u)
       sheet-change w = sheet-written f p w c
 
-      -- parameters and kinds mark both stale, Q neither;
+      -- which parameters and kinds set on both, and Q on neither;
       pub sheet-change-marks : (w : Side) → pairStep f p w (writing c) .reply .refusal ≡ 0 → (v : Side) → trackAt (pairStep f p w (writing c) .pair) v .stale ≡ (sheetMarks c || trackAt p v .stale)
       sheet-change-marks w = sheet-marked f p w c
 
@@ -156,7 +156,7 @@ module _ (f : Format) where
   pub what-a-side-notices : (w : Side) (p : Pair) (cs : List SideCall) → ofSide w (pairTold f p cs) ≡ meetingTold f (trackAt p w) (notices f w false p cs)
   what-a-side-notices = noticed f
 
-  -- So whatever else the partners are and are told, a side that notices the same tells the same.
+  -- So whatever else the partners are and are told, a side that starts from the same track and notices the same tells the same.
   pub nothing-else : (w : Side) (p q : Pair) (cs ds : List SideCall) → trackAt p w ≡ trackAt q w → notices f w false p cs ≡ notices f w false q ds → ofSide w (pairTold f p cs) ≡ ofSide w (pairTold f q ds)
   nothing-else w p q cs ds e h = noticed f w p cs ∙ ap₂ (λ (t : Track) (ks : List Noticed). meetingTold f t ks) e h ∙ sym (noticed f w q ds)
 

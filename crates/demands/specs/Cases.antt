@@ -202,7 +202,7 @@ pairStory =
     ∷ ("A4 the second as it was", (by Second (reading (read-points three)), telling 4 [] (int 5) (int 16) true))
     ∷ []
 
--- New of a pair: a short P of the second comes before a number of the first, and each refused one leaves both sides empty
+-- New of a pair: a short P of the second comes before a number of the first, a number of the second before the parameters; a refused one has no states (`refused-new` in Pairs has all of it)
 abbrev pub newPairIs : List Float → List Float → List Float → List Float → Params → ℕ → Bool
 newPairIs x₁ p₁ x₂ p₂ par number = let a = newPairAnswer binary64 1 x₁ p₁ x₂ p₂ (int 1 ∷ []) par in eqb (a .refusal) number && eqb (a .pair .sheet .n) 0
 
