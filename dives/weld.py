@@ -71,7 +71,7 @@ lines = [
     'readstale',
     '# A beacon due west, one due south, and the compass. The points as they are: not stale.',
     'openc 21',
-    '# A compass that answers rubbish: refused with 5, and nothing has changed. The same with no room for three numbers: 2.',
+    '# A compass that answers rubbish: refused with 55 at place 2, the third measurement, and nothing has changed. The same with no room for three numbers: 2.',
     'closec 3 ' + numbers((101.0, 99.5, math.nan)) + ' ' + numbers((1.0, 0.0, 0.0, 0.0, 1.0, 0.0, 0.0, 0.0, 4.0)) + ' p p t ' + word(180.0) + ' p ' + numbers(flat(read(p) for p in first)),
     'closec 3 ' + numbers((101.0, 99.5)) + ' ' + numbers((1.0, 0.0, 0.0, 0.0, 1.0, 0.0, 0.0, 0.0, 4.0)) + ' p p t ' + word(180.0) + ' p ' + numbers(flat(read(p) for p in first)),
     '# Ranges 101 m and 99.5 m, heading 178: seven degrees to the left of -175, across the wrap. Noise 1 m, 1 m, 2 degrees.',

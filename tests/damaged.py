@@ -1,16 +1,20 @@
 #!/usr/bin/env python3
-"""damaged.py COMMAND SCRIPT [ROUNDS] [SEED]: damages a script and holds the command that replays it to one answer for each call line.
+"""damaged.py COMMAND SCRIPT [ROUNDS] [SEED]: damages a script and holds the command that replays it to one answer in form for each call line.
 
 Each round takes a run of the script's lines and flips bytes, cuts, joins, doubles or lengthens lines, puts a side before them, or drops the last newline. The command has to end
-with status 0 and write one line for each line that holds a token, comment stripped, or is longer than 16,384 bytes. Prints how many rounds and lines that were.
+with status 0 and write one line for each line that holds a token, comment stripped, or is longer than 16,384 bytes: `bad`, or what begins with a number and its place (docs/SCRIPT.md).
+Prints how many rounds and lines that were.
 """
 import random
+import re
 import shlex
 import subprocess
 import sys
 
 LINE = 16384
 BLANKS = b' \t\r'
+# Only a bad number and a pivot have a place that isn't 0.
+ANSWER = re.compile(rb'bad|((0|1|2|3|4|6|9|10) 0|(7|8|5[1-6]) (0|[1-9][0-9]*))( [^ ]+)*')
 
 
 def is_answered(line):
@@ -86,10 +90,11 @@ def main():
         wanted = [is_answered(line) for line in text.split(b'\n')]
         run = subprocess.run(command, input=text, capture_output=True, timeout=120, check=False)
         answers = run.stdout.split(b'\n')
-        if run.returncode != 0 or answers[-1] != b'' or len(answers) - 1 != sum(wanted):
+        formless = sum(not ANSWER.fullmatch(answer) for answer in answers[:-1])
+        if run.returncode != 0 or answers[-1] != b'' or len(answers) - 1 != sum(wanted) or formless:
             with open('damaged.script', 'wb') as out:
                 out.write(text)
-            sys.exit(f'round {number}: status {run.returncode}, {len(answers) - 1} answers for {sum(wanted)} calls; the script is in damaged.script')
+            sys.exit(f'round {number}: status {run.returncode}, {len(answers) - 1} answers for {sum(wanted)} calls, {formless} of no form; the script is in damaged.script')
         total += len(wanted)
         answered += sum(wanted)
         bad += answers.count(b'bad')

@@ -21,17 +21,17 @@ NAN_PATTERNS = [0x7FF8000000000000, 0x7FF0000000000001, 0x7FFFFFFFFFFFFFFF, 0xFF
 # ---- the root
 
 def root_answer(bits):
-    """The answer line for the root of the float with these bits: `0 F`, or `5` for a NaN, an infinity and what is below zero."""
+    """The answer line for the root of the float with these bits: `0 0 F`, or `56 0` for a NaN, an infinity and what is below zero."""
     x = float_of(bits)
     if x == 0.0:
-        return '0 ' + word(x)
+        return '0 0 ' + word(x)
     if not 0.0 < x < INF:
-        return '5'
+        return '56 0'
     r = math.sqrt(x)
     below, above = math.nextafter(r, 0.0), math.nextafter(r, INF)
     exact = Fraction(x)
     assert ((Fraction(below) + Fraction(r)) / 2) ** 2 < exact < ((Fraction(r) + Fraction(above)) / 2) ** 2
-    return '0 ' + word(r)
+    return '0 0 ' + word(r)
 
 
 def scales(k):
@@ -117,17 +117,17 @@ def root_bits():
 # ---- the wrap
 
 def wrap_answer(d_bits, h_bits):
-    """The answer line for the wrap of d by h: the refusal and the value, +0 where it is refused."""
+    """The answer line for the wrap of d by h: number and place, and the value, +0 where it is refused."""
     d, h = float_of(d_bits), float_of(h_bits)
     if not (math.isfinite(d) and math.isfinite(h)):
-        return '5 ' + word(0.0)
+        return '56 0 ' + word(0.0)
     turn = 2 * Fraction(h)
     if not (h > 0.0 and turn <= Fraction(LARGEST)):
-        return '6 ' + word(0.0)
+        return '6 0 ' + word(0.0)
     # the remainder has the sign of d, a zero too; the two lines below it never give a zero, since it lies strictly inside one turn
     r = abs(Fraction(d)) % turn
     if r == 0:
-        return '0 ' + word(math.copysign(0.0, d))
+        return '0 0 ' + word(math.copysign(0.0, d))
     if d < 0.0:
         r = -r
     if r > Fraction(h):
@@ -137,7 +137,7 @@ def wrap_answer(d_bits, h_bits):
     assert r != 0 and -Fraction(h) < r <= Fraction(h)
     value = float(r)
     assert Fraction(value) == r
-    return '0 ' + word(value)
+    return '0 0 ' + word(value)
 
 
 def wrap_bits():

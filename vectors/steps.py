@@ -34,11 +34,11 @@ def finite(numbers):
 
 
 class Stop(Exception):
-    """A refusal, and the step that ended the work."""
+    """A refusal with its place, and the step that ended the work."""
 
-    def __init__(self, refusal, step):
-        super().__init__(refusal, step)
-        self.refusal = refusal
+    def __init__(self, refusal, step, place=0):
+        super().__init__(refusal, step, place)
+        self.refusal = '%d %d' % (refusal, place)
         self.step = step
 
 
@@ -59,7 +59,7 @@ def factor(a, n, refusal):
         for k in range(j):
             pivot = pivot - l[j * n + k] * l[j * n + k]
         if not (math.isfinite(pivot) and pivot > 0.0):
-            raise Stop(refusal, 'pivot')
+            raise Stop(refusal, 'pivot', j)
         l[j * n + j] = math.sqrt(pivot)
         for i in range(j + 1, n):
             e = a[i * n + j]
@@ -212,16 +212,16 @@ def kind_words(kinds):
 
 
 def outcome(work):
-    """The refusal and the step that ended the work, or 0 and what it gives."""
+    """The refusal with its place and the step that ended the work, or 0 at 0 and what it gives."""
     try:
-        return 0, None, work()
+        return '0 0', None, work()
     except Stop as stop:
         return stop.refusal, stop.step, ()
 
 
 def factor_record(which, n, a):
     refusal, step, l = outcome(lambda: factor(a, n, which))
-    return (3, [word(which), word(n)] + floats(a), str(refusal) + numbers(l)), step
+    return (3, [word(which), word(n)] + floats(a), refusal + numbers(l)), step
 
 
 def inverse_record(m, l):
@@ -249,14 +249,14 @@ def draw_record(n, params, x, p):
     w = Weights(n, *params)
     assert w.passes
     refusal, step, points = outcome(lambda: draw(n, x, p, w))
-    return (9, [word(n)] + floats(params) + floats(x) + floats(p), str(refusal) + numbers(points)), step
+    return (9, [word(n)] + floats(params) + floats(x) + floats(p), refusal + numbers(points)), step
 
 
 def reconstruct_record(n, params, kinds, q, points):
     w = Weights(n, *params)
     assert w.passes
     refusal, step, both = outcome(lambda: reconstruct_prediction(n, kinds, q, points, w))
-    answer = str(refusal) + ''.join(numbers(part) for part in both)
+    answer = refusal + ''.join(numbers(part) for part in both)
     return (10, [word(n)] + floats(params) + kind_words(kinds) + floats(q) + floats(points), answer), step
 
 
@@ -264,7 +264,7 @@ def correct_record(n, m, params, kinds, z_kinds, x, p, z, r, points, observed):
     w = Weights(n, *params)
     assert w.passes
     refusal, step, both = outcome(lambda: correct(n, m, kinds, z_kinds, x, p, z, r, points, observed, w))
-    answer = str(refusal) + ''.join(numbers(part) for part in both)
+    answer = refusal + ''.join(numbers(part) for part in both)
     words = [word(n), word(m)] + floats(params) + kind_words(kinds) + kind_words(z_kinds)
     for part in (x, p, z, r, points, observed):
         words += floats(part)
@@ -549,7 +549,7 @@ def worked():
     assert not Weights(1, 1.0, 0.0, -1.0).passes
     assert [through(180.0, d) for d in (350.0, 190.0, 180.0, -180.0, 540.0, -350.0)] == [-10.0, -170.0, 180.0, 180.0, 180.0, 10.0]
     assert factor([4.0, 2.0, 2.0, 5.0], 2, PIVOT) == [2.0, 0.0, 1.0, 2.0]
-    assert outcome(lambda: factor([1.0, 2.0, 2.0, 1.0], 2, PIVOT))[:2] == (7, 'pivot')
+    assert outcome(lambda: factor([1.0, 2.0, 2.0, 1.0], 2, PIVOT))[:2] == ('7 1', 'pivot')
     w, plain = Weights(1, *C1), [None]
     assert draw(1, [2.0], [4.0], w) == [2.0, 4.0, 0.0]
     assert reconstruct_prediction(1, plain, [1.0], [2.0, 4.0, 0.0], w) == ([2.0], [5.0])
@@ -570,6 +570,6 @@ if __name__ == '__main__':
     for name, found in ended_lists():
         ends = {}
         for (tag, words, answer), step in found:
-            key = answer[0] + (' ' + step if step else '')
+            key = answer.split()[0] + (' ' + step if step else '')
             ends[key] = ends.get(key, 0) + 1
         print(name, ends)

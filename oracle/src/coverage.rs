@@ -1,30 +1,36 @@
-//! What scripts should meet. On the solo filter: every number that a call can give, every stage and step that can stop it,
-//! every setting on stale points and on points in use, every size. On a pair: every number, every change of its sheet through either side
-//! with whatever points and open calls, and every other call on a side with whatever its partner has open.
+//! What scripts should meet. On the solo filter: every number that a call can give, every stage and step that can stop it, what its place
+//! can be told among (of New of a pair too), every setting on stale points and on points in use, every size. On a pair: every number, every change
+//! of its sheet through either side with whatever points and open calls, and every other call on a side with whatever its partner has open.
 
 use crate::filter::Open;
 use crate::pair::Side;
+use crate::places::{self, AFTER_PARAM, AFTER_PLAIN, SECOND, SEVERAL, SPOTS};
 use crate::script::{
     before, named, on_points, through, with_partner, Table, BOTH_OPEN, IN_USE, OWN_OPEN, PARTNER_OPEN, SETTERS, SHEET, STALE,
 };
 
 /// The numbers that the calls on no filter, and those that make one, can give in a script.
-const ALONE: [(&str, &[u8]); 5] =
-    [("new", &[0, 1, 2, 5, 6]), ("newpair", &[0, 1, 2, 5, 6]), ("point", &[0, 1, 2]), ("wrap", &[0, 5, 6]), ("root", &[0, 5])];
+const ALONE: [(&str, &[u8]); 5] = [
+    ("new", &[0, 1, 2, 51, 52, 53, 56, 6]),
+    ("newpair", &[0, 1, 2, 51, 52, 53, 56, 6]),
+    ("point", &[0, 1, 2]),
+    ("wrap", &[0, 56, 6]),
+    ("root", &[0, 56]),
+];
 
 /// Those of the calls on a filter, the solo one or a side. (Opening never gives 6; on the empty filter abandon and closes give 3.)
 const ON_FILTER: [(&str, &[u8]); 18] = [
-    ("setx", &[0, 1, 2, 3, 5]),
-    ("setp", &[0, 1, 2, 3, 5]),
-    ("setq", &[0, 1, 2, 3, 5]),
-    ("setpar", &[0, 1, 3, 5, 6]),
-    ("setkind", &[0, 1, 3, 5, 6]),
+    ("setx", &[0, 1, 2, 3, 51]),
+    ("setp", &[0, 1, 2, 3, 52]),
+    ("setq", &[0, 1, 2, 3, 53]),
+    ("setpar", &[0, 1, 3, 56, 6]),
+    ("setkind", &[0, 1, 3, 56, 6]),
     ("abandon", &[0, 3]),
     ("openp", &[0, 1, 2, 3, 7, 9]),
     ("openc", &[0, 1, 2, 3, 7, 9]),
-    ("closep", &[0, 2, 3, 5, 9]),
-    ("closec", &[0, 1, 2, 3, 5, 6, 8, 9]),
-    ("closef", &[0, 1, 2, 3, 5, 8, 9, 10]),
+    ("closep", &[0, 2, 3, 54, 9]),
+    ("closec", &[0, 1, 2, 3, 53, 54, 55, 56, 6, 8, 9]),
+    ("closef", &[0, 1, 2, 3, 53, 54, 55, 8, 9, 10]),
     ("readx", &[0, 1, 2]),
     ("readp", &[0, 1, 2]),
     ("readq", &[0, 1, 2]),
@@ -64,6 +70,51 @@ const CORRECTION: [(u8, &str); 13] = [
     (9, "x"),
     (9, "P"),
 ];
+
+/// The slices that a call searches for bad numbers, by their numbers and in that order; but those of one number.
+pub const SEARCHED: [(&str, &[u8]); 9] = [
+    ("new", &[51, 52, 53, 56]),
+    ("newpair", &[51, 52, 51, 52, 53, 56]),
+    ("setx", &[51]),
+    ("setp", &[52]),
+    ("setq", &[53]),
+    ("setpar", &[56]),
+    ("closep", &[54]),
+    ("closec", &[53, 54, 55, 56]),
+    ("closef", &[53, 54, 55]),
+];
+
+pub fn slices_of(call: &str) -> &'static [u8] {
+    SEARCHED.iter().find(|(searching, _)| *searching == call).map_or(&[], |(_, numbers)| *numbers)
+}
+
+/// The calls that tell the row of a pivot, and how many rows there can be.
+pub const PIVOTS: [(&str, u8, usize); 4] = [("openp", 7, 8), ("openc", 7, 8), ("closec", 8, 4), ("closef", 8, 4)];
+
+/// What the answer of a call can show of its search when it gives one of these numbers.
+pub fn searches(call: &str, number: u8) -> Vec<String> {
+    let numbers = slices_of(call);
+    let later = numbers.iter().position(|other| *other == number).map_or(&[][..], |at| &numbers[at + 1..]);
+    let mut words: Vec<String> = SPOTS.iter().chain(&[SEVERAL]).map(|word| word.to_string()).collect();
+    if later.contains(&number) {
+        words.push(SECOND.into());
+    }
+    if (call, number) == ("closec", 56) {
+        words.extend([AFTER_PLAIN.into(), AFTER_PARAM.into()]);
+    }
+    words.extend((51..=56).filter(|other| later.contains(other)).map(places::before));
+    match call {
+        "closef" => words.push(places::before(10)),
+        "new" | "newpair" | "closec" if number != 56 => words.push(places::before(6)),
+        _ => {}
+    }
+    words
+}
+
+/// The slices that can be longer than a call needs: all but the parameters. The kinds are four, of which a close needs m.
+pub fn with_rest(call: &str, number: u8) -> bool {
+    number != 56 || call == "closec"
+}
 
 /// The closes of a correction, each met with every n and m.
 pub const CORRECTIONS: [(&str, &str); 2] = [("closec", "correction"), ("closef", "flat correction")];
@@ -115,7 +166,7 @@ pub fn sheet_changes(table: &Table, call: &str, side: Side) -> Vec<(String, u64)
 
 /// What a setting can be refused by for what it is lent.
 pub const FAULTS: [(&str, &[u8]); 5] =
-    [("setx", &[2, 5]), ("setp", &[2, 5]), ("setq", &[2, 5]), ("setpar", &[5, 6]), ("setkind", &[1, 5, 6])];
+    [("setx", &[2, 51]), ("setp", &[2, 52]), ("setq", &[2, 53]), ("setpar", &[56, 6]), ("setkind", &[1, 56, 6])];
 
 /// How often a sheet change with a fault was refused, through either side: for the fault, by the partner's points,
 /// and by 3 for the partner's call, by the number that had to wait.
@@ -134,9 +185,25 @@ pub fn faulty_changes(table: &Table, call: &str) -> Vec<(String, u64)> {
     refused.into_iter().chain(first).collect()
 }
 
-/// What was not met.
-pub fn holes(table: &Table) -> Vec<String> {
-    let mut holes = Vec::new();
+/// What of request A5 was not met: what a search can show, bad numbers past what is needed, rows.
+fn place_holes(places: &Table) -> Vec<String> {
+    let mut wanted = Vec::new();
+    for (call, numbers) in SEARCHED {
+        for number in (51..=56).filter(|number| numbers.contains(number)) {
+            wanted.extend(searches(call, number).into_iter().map(|word| (call, number, word)));
+            wanted.extend(with_rest(call, number).then(|| (call, 0, places::past(number))));
+        }
+    }
+    for (call, number, rows) in PIVOTS {
+        wanted.extend((0..rows).map(|row| (call, number, places::row(row))));
+    }
+    let unmet = wanted.into_iter().filter(|(call, number, word)| count_with(places, call, *number, word) == 0);
+    unmet.map(|(call, number, word)| format!("{call}: {number} {word}")).collect()
+}
+
+/// What was not met, by the two tables of a reader.
+pub fn holes(table: &Table, places: &Table) -> Vec<String> {
+    let mut holes = place_holes(places);
     for (call, numbers) in numbers() {
         holes.extend(numbers.iter().filter(|number| count(table, &call, **number) == 0).map(|number| format!("{call}: {number}")));
     }

@@ -3,7 +3,8 @@
 
 use crate::kinds::{is_half_turn, Kind};
 use crate::published::{self, Measurement, Published};
-use crate::steps::{self, all_finite, Average, Correction, Params, Prediction, Stop, Weights};
+use crate::refusal::{Refusal, Slice};
+use crate::steps::{self, Average, Correction, Params, Prediction, Weights};
 
 #[derive(Clone, Copy, Debug, PartialEq)]
 pub enum Open {
@@ -25,22 +26,30 @@ impl Open {
 /// Why a call changed nothing: a refusal, or (never, we hope) that the published Rust and `steps` part.
 #[derive(Debug)]
 pub enum Trouble {
-    Refused(Stop),
+    Refused(Refusal),
     Parted(String),
 }
 
-impl From<Stop> for Trouble {
-    fn from(stop: Stop) -> Trouble {
-        Trouble::Refused(stop)
+impl From<Refusal> for Trouble {
+    fn from(refusal: Refusal) -> Trouble {
+        Trouble::Refused(refusal)
     }
 }
 
-/// Refusal `number` where this holds; the callers keep the order 3, 1, 2, 4, 5, 10, 6.
-pub(crate) fn refuse_if(holds: bool, number: u8) -> Result<(), Stop> {
+/// Refused where this holds; the callers keep the order 3, 1, 2, 4, 51 to 56, 10, 6.
+pub(crate) fn refuse_if(holds: bool, refusal: Refusal) -> Result<(), Refusal> {
     if holds {
-        Err(Stop { number, step: "" })
+        Err(refusal)
     } else {
         Ok(())
+    }
+}
+
+/// Refused at the first number that isn't finite. Lent are the numbers that a call needs of a slice, and no more.
+fn search(slice: Slice, numbers: &[f64]) -> Result<(), Refusal> {
+    match numbers.iter().position(|number| !number.is_finite()) {
+        None => Ok(()),
+        Some(place) => Err(Refusal::Number(slice, place)),
     }
 }
 
@@ -59,8 +68,8 @@ pub fn list_length(n: usize) -> usize {
 }
 
 /// A size of states as a usize, if it is one; nothing is multiplied before.
-fn states(n: u64) -> Result<usize, Stop> {
-    refuse_if(!(1..=8).contains(&n), 1)?;
+fn states(n: u64) -> Result<usize, Refusal> {
+    refuse_if(!(1..=8).contains(&n), Refusal::Size)?;
     Ok(n as usize)
 }
 
@@ -125,13 +134,13 @@ impl Filter {
         self.rust.as_deref_mut().expect("a filter with states has its published filter")
     }
 
-    fn sized(&self) -> Result<usize, Stop> {
+    fn sized(&self) -> Result<usize, Refusal> {
         states(self.n as u64)
     }
 
     /// The checks that all setters begin with.
-    fn settable(&self) -> Result<usize, Stop> {
-        refuse_if(self.open != Open::Nothing, 3)?;
+    fn settable(&self) -> Result<usize, Refusal> {
+        refuse_if(self.open != Open::Nothing, Refusal::Stage)?;
         self.sized()
     }
 
@@ -146,7 +155,7 @@ impl Filter {
 
     pub fn set_x(&mut self, x: &[f64]) -> Result<(), Trouble> {
         let n = self.settable()?;
-        self.x = front(x, n)?;
+        self.x = front(Slice::State, x, n)?;
         self.rust_mut().set_x(x);
         self.mark();
         Ok(())
@@ -154,7 +163,7 @@ impl Filter {
 
     pub fn set_p(&mut self, p: &[f64]) -> Result<(), Trouble> {
         let n = self.settable()?;
-        self.p = front(p, n * n)?;
+        self.p = front(Slice::Covariance, p, n * n)?;
         self.rust_mut().set_p(p);
         self.mark();
         Ok(())
@@ -162,15 +171,14 @@ impl Filter {
 
     pub fn set_q(&mut self, q: &[f64]) -> Result<(), Trouble> {
         let n = self.settable()?;
-        self.q = front(q, n * n)?;
+        self.q = front(Slice::Noise, q, n * n)?;
         self.rust_mut().set_q(q);
         Ok(())
     }
 
     pub fn set_params(&mut self, par: Params) -> Result<(), Trouble> {
         let n = self.settable()?;
-        refuse_if(!finite_params(par), 5)?;
-        refuse_if(!Weights::of(n, par).pass(), 6)?;
+        pass_params(n, par)?;
         self.par = par;
         self.rust_mut().set_params(par);
         self.mark();
@@ -179,7 +187,7 @@ impl Filter {
 
     pub fn set_kind(&mut self, i: u64, kind: Kind) -> Result<(), Trouble> {
         let n = self.settable()?;
-        refuse_if(i >= n as u64, 1)?;
+        refuse_if(i >= n as u64, Refusal::Size)?;
         pass_kinds(&[kind])?;
         self.kinds[i as usize] = kind;
         let kinds = self.kinds.clone();
@@ -194,9 +202,9 @@ impl Filter {
     }
 
     /// The checks that both opens begin with.
-    fn openable(&self, buffer: &[f64]) -> Result<usize, Stop> {
+    fn openable(&self, buffer: &[f64]) -> Result<usize, Refusal> {
         let n = self.settable()?;
-        refuse_if(buffer.len() < list_length(n), 2)?;
+        refuse_if(buffer.len() < list_length(n), Refusal::Short)?;
         Ok(n)
     }
 
@@ -252,17 +260,15 @@ impl Filter {
         self.drawn_weights = [0.0; 2];
     }
 
-    /// The checks that all closes begin with; of a 3 the table tells what was open.
-    fn closable(&self, wanted: Open) -> Result<usize, Stop> {
-        if self.open != wanted {
-            return Err(Stop { number: 3, step: self.open.name() });
-        }
+    /// The checks that all closes begin with.
+    fn closable(&self, wanted: Open) -> Result<usize, Refusal> {
+        refuse_if(self.open != wanted, Refusal::Stage)?;
         self.sized()
     }
 
     pub fn close_prediction(&mut self, propagated: &[f64]) -> Result<(), Trouble> {
         let n = self.closable(Open::Prediction)?;
-        let propagated = front(propagated, list_length(n))?;
+        let propagated = front(Slice::Points, propagated, list_length(n))?;
         let [w0c, wi] = self.drawn_weights;
         let w0m = Weights::of(n, self.par).w0m;
         let (x, p) = steps::predict(&Prediction { n, q: &self.q, kinds: &self.kinds, w0m, w0c, wi, propagated: &propagated })?;
@@ -274,14 +280,16 @@ impl Filter {
         self.closed(false)
     }
 
-    /// What both closes of a correction begin with: 3, 1, 2, and 5 in what they are lent. No kinds yet: all plain.
-    fn measured<'a>(&self, m: u64, z: &'a [f64], r: &'a [f64], observed: &'a [f64]) -> Result<Measurement<'a>, Stop> {
+    /// What both closes of a correction begin with: 3, 1, 2, then 53, 54 and 55, which is not the order in which they are lent. No kinds yet: all plain.
+    fn measured<'a>(&self, m: u64, z: &'a [f64], r: &'a [f64], observed: &'a [f64]) -> Result<Measurement<'a>, Refusal> {
         let n = self.closable(Open::Correction)?;
-        refuse_if(!(1..=4).contains(&m), 1)?;
+        refuse_if(!(1..=4).contains(&m), Refusal::Size)?;
         let m = m as usize;
-        refuse_if(z.len() < m || r.len() < m * m || observed.len() < m * (2 * n + 1), 2)?;
+        refuse_if(z.len() < m || r.len() < m * m || observed.len() < m * (2 * n + 1), Refusal::Short)?;
         let (z, r, observed) = (&z[..m], &r[..m * m], &observed[..m * (2 * n + 1)]);
-        refuse_if(!(all_finite(z) && all_finite(r) && all_finite(observed)), 5)?;
+        search(Slice::Noise, r)?;
+        search(Slice::Points, observed)?;
+        search(Slice::Measurement, z)?;
         Ok(Measurement { m, z, r, kinds: &[Kind::Plain; 4][..m], observed })
     }
 
@@ -295,7 +303,7 @@ impl Filter {
     /// Request A1: averages know no kinds, so a filter with a turn is turned away.
     pub fn close_flat(&mut self, m: u64, z: &[f64], r: &[f64], observed: &[f64]) -> Result<(), Trouble> {
         let with = self.measured(m, z, r, observed)?;
-        refuse_if(self.kinds.iter().any(|kind| kind.half().is_some()), 10)?;
+        refuse_if(self.kinds.iter().any(|kind| kind.half().is_some()), Refusal::Kind)?;
         self.corrected(Average::Flat, &with)
     }
 
@@ -331,7 +339,7 @@ impl Filter {
     }
 
     pub fn abandon(&mut self) -> Result<(), Trouble> {
-        refuse_if(self.open == Open::Nothing, 3)?;
+        refuse_if(self.open == Open::Nothing, Refusal::Stage)?;
         self.sized()?;
         self.emptied();
         Ok(())
@@ -354,8 +362,8 @@ impl Filter {
 
     pub fn read_points(&self, buffer: &mut [f64]) -> Result<(), Trouble> {
         let n = self.sized()?;
-        refuse_if(buffer.len() < list_length(n), 2)?;
-        refuse_if(self.stale, 4)?;
+        refuse_if(buffer.len() < list_length(n), Refusal::Short)?;
+        refuse_if(self.stale, Refusal::Stale)?;
         written(&self.points, buffer)
     }
 
@@ -376,35 +384,41 @@ pub struct Start<'a> {
     pub p: &'a [f64],
 }
 
-/// The checks of New, for a filter or for both of a pair (request A4): 1, 2, 5, 6.
-pub(crate) fn newable(n: u64, starts: &[Start], q: &[f64], par: Params) -> Result<usize, Stop> {
+/// The checks of New, for a filter or for both of a pair (request A4): 1, 2, then 51 and 52 of each start in turn, 53, 56, 6.
+pub(crate) fn newable(n: u64, starts: &[Start], q: &[f64], par: Params) -> Result<usize, Refusal> {
     let n = states(n)?;
-    refuse_if(starts.iter().any(|start| start.x.len() < n || start.p.len() < n * n) || q.len() < n * n, 2)?;
-    let finite = starts.iter().all(|start| all_finite(&start.x[..n]) && all_finite(&start.p[..n * n]));
-    refuse_if(!(finite && all_finite(&q[..n * n]) && finite_params(par)), 5)?;
-    refuse_if(!Weights::of(n, par).pass(), 6)?;
+    refuse_if(starts.iter().any(|start| start.x.len() < n || start.p.len() < n * n) || q.len() < n * n, Refusal::Short)?;
+    for start in starts {
+        search(Slice::State, &start.x[..n])?;
+        search(Slice::Covariance, &start.p[..n * n])?;
+    }
+    search(Slice::Noise, &q[..n * n])?;
+    pass_params(n, par)?;
     Ok(n)
 }
 
-/// The front of a lent slice: 2 where it is short, 5 where a number in it isn't finite.
-fn front(numbers: &[f64], wanted: usize) -> Result<Vec<f64>, Stop> {
-    refuse_if(numbers.len() < wanted, 2)?;
-    refuse_if(!all_finite(&numbers[..wanted]), 5)?;
+/// The front of a lent slice: 2 where it is short, then the slice's own number.
+fn front(slice: Slice, numbers: &[f64], wanted: usize) -> Result<Vec<f64>, Refusal> {
+    refuse_if(numbers.len() < wanted, Refusal::Short)?;
+    search(slice, &numbers[..wanted])?;
     Ok(numbers[..wanted].to_vec())
 }
 
-fn finite_params(par: Params) -> bool {
-    all_finite(&[par.alpha, par.beta, par.kappa])
+/// Alpha, beta and kappa have the places 0, 1, 2.
+fn pass_params(n: usize, par: Params) -> Result<(), Refusal> {
+    search(Slice::Lone, &par.numbers())?;
+    refuse_if(!Weights::of(n, par).pass(), Refusal::Param)
 }
 
-/// Every 5 before any 6.
-fn pass_kinds(kinds: &[Kind]) -> Result<(), Stop> {
-    refuse_if(kinds.iter().filter_map(|kind| kind.half()).any(|h| !h.is_finite()), 5)?;
-    refuse_if(kinds.iter().filter_map(|kind| kind.half()).any(|h| !is_half_turn(h)), 6)
+/// A half-turn's place is its index among the kinds; a plain one, which has none, counts there as a number that is fine. Every 56 before any 6.
+fn pass_kinds(kinds: &[Kind]) -> Result<(), Refusal> {
+    let halves: Vec<f64> = kinds.iter().map(|kind| kind.half().unwrap_or(1.0)).collect();
+    search(Slice::Lone, &halves)?;
+    refuse_if(!halves.iter().all(|h| is_half_turn(*h)), Refusal::Param)
 }
 
 fn written(numbers: &[f64], buffer: &mut [f64]) -> Result<(), Trouble> {
-    refuse_if(buffer.len() < numbers.len(), 2)?;
+    refuse_if(buffer.len() < numbers.len(), Refusal::Short)?;
     buffer[..numbers.len()].copy_from_slice(numbers);
     Ok(())
 }
@@ -419,18 +433,18 @@ fn all_weights(n: usize, [w0c, wi]: [f64; 2]) -> Vec<f64> {
 /// Point k of a lent list: where it starts and how long it is.
 pub fn point(n: u64, k: u64, list: &[f64]) -> Result<(usize, usize), Trouble> {
     let n = states(n)?;
-    refuse_if(k > 2 * n as u64, 1)?;
-    refuse_if(list.len() < list_length(n), 2)?;
+    refuse_if(k > 2 * n as u64, Refusal::Size)?;
+    refuse_if(list.len() < list_length(n), Refusal::Short)?;
     Ok((k as usize * n, n))
 }
 
 pub fn wrap(d: f64, h: f64) -> Result<f64, Trouble> {
-    refuse_if(!d.is_finite(), 5)?;
+    search(Slice::Lone, &[d])?;
     pass_kinds(&[Kind::Turn(h)])?;
     Ok(Kind::Turn(h).fixed(d))
 }
 
 pub fn root(a: f64) -> Result<f64, Trouble> {
-    refuse_if(!a.is_finite() || a < 0.0, 5)?;
+    refuse_if(!a.is_finite() || a < 0.0, Refusal::Number(Slice::Lone, 0))?;
     Ok(a.sqrt())
 }

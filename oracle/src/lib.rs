@@ -27,6 +27,8 @@ pub mod coverage;
 pub mod filter;
 pub mod kinds;
 pub mod pair;
+pub mod places;
 pub mod published;
+pub mod refusal;
 pub mod script;
 pub mod steps;

@@ -2,6 +2,7 @@
 //! Each side is a filter of its own with the published Rust behind it. That they share a sheet is this: both get each accepted change of it, whichever side it came through.
 
 use crate::filter::{newable, refuse_if, Filter, Open, Start, Trouble};
+use crate::refusal::Refusal;
 use crate::steps::Params;
 
 #[derive(Clone, Copy, Debug, PartialEq)]
@@ -38,7 +39,7 @@ impl Pair {
         Pair { sides: [Filter::empty(), Filter::empty()] }
     }
 
-    /// One n, checked once; each refusal is looked for in all that both are lent before the next one is.
+    /// One n, checked once; 2 is looked for in all that both are lent, then the numbers of the first x and P before those of the second.
     pub fn new(n: u64, starts: [Start; 2], q: &[f64], par: Params) -> Result<Pair, Trouble> {
         newable(n, &starts, q, par)?;
         let [one, two] = starts.map(|start| Filter::new(n, start.x, start.p, q, par));
@@ -56,7 +57,7 @@ impl Pair {
     /// A sheet change, through either side: 3 while either has a call open. With nothing open a setting looks at n and at what it is lent,
     /// so both filters take it or neither does; each marks itself as it would alone.
     pub fn change(&mut self, setting: impl Fn(&mut Filter) -> Result<(), Trouble>) -> Result<(), Trouble> {
-        refuse_if(self.sides.iter().any(|side| side.open != Open::Nothing), 3)?;
+        refuse_if(self.sides.iter().any(|side| side.open != Open::Nothing), Refusal::Stage)?;
         self.sides.iter_mut().try_for_each(setting)
     }
 }

@@ -2,9 +2,11 @@
 
 use std::collections::BTreeMap;
 
-use crate::filter::{self, Filter, Open, Start, Trouble};
+use crate::filter::{self, list_length, Filter, Open, Start, Trouble};
 use crate::kinds::Kind;
 use crate::pair::{Pair, Side};
+use crate::places::Search;
+use crate::refusal::Slice;
 use crate::steps::Params;
 
 /// The longest line and the longest list or buffer that are taken.
@@ -31,11 +33,13 @@ pub const OWN_OPEN: &str = "own call open";
 pub const PARTNER_OPEN: &str = "partner's call open";
 pub const BOTH_OPEN: &str = "both calls open";
 
-/// A reader of scripts: the one current filter, the one current pair, and the table of what was met.
+/// A reader of scripts: the one current filter, the one current pair, and the tables of what was met.
 pub struct Reader {
     pub filter: Filter,
     pub pair: Pair,
     pub table: Table,
+    /// What places were told among (`Search::shown`); an answer may show several things, or none.
+    pub places: Table,
 }
 
 /// A line that is no call.
@@ -45,13 +49,14 @@ struct Bad;
 struct Told {
     call: String,
     number: u8,
+    place: usize,
     more: String,
     text: String,
 }
 
 impl Default for Reader {
     fn default() -> Self {
-        Reader { filter: Filter::empty(), pair: Pair::empty(), table: Table::new() }
+        Reader { filter: Filter::empty(), pair: Pair::empty(), table: Table::new(), places: Table::new() }
     }
 }
 
@@ -68,26 +73,34 @@ impl Reader {
             call(word, tokens)
         };
         let told = match told {
-            Ok(call) => self.take(call)?,
-            Err(Bad) => Told { call: "bad".into(), number: BAD, more: String::new(), text: "bad".into() },
+            Ok(call) => {
+                let told = self.take(&call)?;
+                if matches!(told.number, 0 | 7 | 8 | 51..=56) {
+                    for word in self.search(&call).shown(told.number, told.place) {
+                        *self.places.entry((told.call.clone(), told.number, word)).or_default() += 1;
+                    }
+                }
+                told
+            }
+            Err(Bad) => Told { call: "bad".into(), number: BAD, place: 0, more: String::new(), text: "bad".into() },
         };
         *self.table.entry((told.call, told.number, told.more)).or_default() += 1;
         Ok(Some(told.text))
     }
 
-    fn take(&mut self, call: Call) -> Result<Told, String> {
+    fn take(&mut self, call: &Call) -> Result<Told, String> {
         match call {
             Call::New(n, x, p, q, par) => {
-                let made = Filter::new(n, &x, &p, &q, par);
+                let made = Filter::new(*n, x, p, q, *par);
                 renewed("new", &mut self.filter, made, Filter::empty())
             }
             Call::NewPair(n, x1, p1, x2, p2, q, par) => {
-                let made = Pair::new(n, [Start { x: &x1, p: &p1 }, Start { x: &x2, p: &p2 }], &q, par);
+                let made = Pair::new(*n, [Start { x: x1, p: p1 }, Start { x: x2, p: p2 }], q, *par);
                 renewed("newpair", &mut self.pair, made, Pair::empty())
             }
             Call::On(on, call) => {
-                let beside = self.beside(on, call.name());
-                let told = match (on, &call) {
+                let beside = self.beside(*on, call.name());
+                let told = match (*on, call) {
                     (Some(side), OnFilter::Set(setting)) if SHEET.contains(&setting.name()) => {
                         let told = bare(setting.name(), self.pair.change(|filter| setting.put(filter)))?;
                         let more = if told.number == 3 { before(&beside, setting.fault(self.pair.side(side))) } else { String::new() };
@@ -97,17 +110,38 @@ impl Reader {
                     (None, _) => on_filter(&mut self.filter, call),
                 }?;
                 let more = if told.more.is_empty() || on.is_some() && told.number == 0 { beside } else { told.more };
-                Ok(Told { call: named(on, &told.call), more, ..told })
+                Ok(Told { call: named(*on, &told.call), more, ..told })
             }
-            Call::Point(n, k, list) => told("point", filter::point(n, k, &list), |number, part| {
+            Call::Point(n, k, list) => told("point", filter::point(*n, *k, list), |part| {
                 let (start, length) = part.unwrap_or((0, 0));
-                format!("{number} {start} {length}{}", bits(&list[start..start + length]))
+                format!(" {start} {length}{}", bits(&list[start..start + length]))
             }),
-            Call::Wrap(d, h) => told("wrap", filter::wrap(d, h), |number, wrapped| format!("{number}{}", bits(&[wrapped.unwrap_or(0.0)]))),
-            Call::Root(a) => told("root", filter::root(a), |number, root| match root {
-                Some(root) => format!("{number}{}", bits(&[root])),
-                None => format!("{number}"),
-            }),
+            Call::Wrap(d, h) => told("wrap", filter::wrap(*d, *h), |wrapped| bits(&[wrapped.unwrap_or(0.0)])),
+            Call::Root(a) => told("root", filter::root(*a), |root| bits(root.as_slice())),
+        }
+    }
+
+    /// What a call that wasn't refused before has searched; but for single numbers.
+    fn search(&self, call: &Call) -> Search {
+        let (on, call) = match call {
+            Call::New(n, x, p, q, par) => return Search::of_new(*n as usize, &[(x, p)], q, *par),
+            Call::NewPair(n, x1, p1, x2, p2, q, par) => return Search::of_new(*n as usize, &[(x1, p1), (x2, p2)], q, *par),
+            Call::On(on, call) => (self.filter(*on), call),
+            _ => return Search::default(),
+        };
+        let n = on.n;
+        match call {
+            OnFilter::Set(Setting::X(x)) => Search::of(Slice::State, x, n),
+            OnFilter::Set(Setting::P(p)) => Search::of(Slice::Covariance, p, n * n),
+            OnFilter::Set(Setting::Q(q)) => Search::of(Slice::Noise, q, n * n),
+            OnFilter::Set(Setting::Par(par)) => Search::of(Slice::Lone, &par.numbers(), 3),
+            OnFilter::CloseP(propagated) => Search::of(Slice::Points, propagated, list_length(n)),
+            OnFilter::CloseC(m, z, r, kinds, observed) => Search::of_close(n, *m as usize, z, r, kinds, observed),
+            OnFilter::CloseF(m, z, r, observed) => {
+                let turn = on.kinds.iter().any(|kind| kind.half().is_some());
+                Search::of_flat_close(n, *m as usize, z, r, turn, observed)
+            }
+            _ => Search::default(),
         }
     }
 
@@ -191,13 +225,13 @@ fn renewed<A>(call: &str, current: &mut A, made: Result<A, Trouble>, empty: A) -
 }
 
 /// A call on a filter, the solo one or a side; but for changes of a pair's sheet.
-fn on_filter(filter: &mut Filter, call: OnFilter) -> Result<Told, String> {
+fn on_filter(filter: &mut Filter, call: &OnFilter) -> Result<Told, String> {
     let name = call.name();
     match call {
         OnFilter::Set(setting) => bare(name, setting.put(filter)),
         OnFilter::Abandon => bare(name, filter.abandon()),
         OnFilter::Lent(which, length) => {
-            let mut buffer: Vec<f64> = (0..length).map(|i| f64::from_bits(0x4330_0000_0000_0000 + i)).collect();
+            let mut buffer: Vec<f64> = (0..*length).map(|i| f64::from_bits(0x4330_0000_0000_0000 + i)).collect();
             let outcome = match which {
                 Lent::OpenP => filter.open_prediction(&mut buffer),
                 Lent::OpenC => filter.open_correction(&mut buffer),
@@ -206,51 +240,50 @@ fn on_filter(filter: &mut Filter, call: OnFilter) -> Result<Told, String> {
                 Lent::Q => filter.read_q(&mut buffer),
                 Lent::Points => filter.read_points(&mut buffer),
             };
-            told(name, outcome, |number, _| format!("{number} {length}{}", bits(&buffer)))
+            told(name, outcome, |_| format!(" {length}{}", bits(&buffer)))
         }
         OnFilter::CloseP(propagated) => {
-            let outcome = filter.close_prediction(&propagated);
+            let outcome = filter.close_prediction(propagated);
             closed(name, outcome, filter, String::new())
         }
         OnFilter::CloseC(m, z, r, kinds, observed) => {
-            let outcome = filter.close_correction(m, &z, &r, kinds, &observed);
+            let outcome = filter.close_correction(*m, z, r, *kinds, observed);
             closed(name, outcome, filter, format!(" m={m}"))
         }
         OnFilter::CloseF(m, z, r, observed) => {
-            let outcome = filter.close_flat(m, &z, &r, &observed);
+            let outcome = filter.close_flat(*m, z, r, observed);
             closed(name, outcome, filter, format!(" m={m}"))
         }
-        OnFilter::ReadPar => told(name, filter.read_params(), |number, par| {
-            let par = par.unwrap_or_default();
-            format!("{number}{}", bits(&[par.alpha, par.beta, par.kappa]))
-        }),
-        OnFilter::ReadStale => told(name, filter.read_stale(), |number, stale| format!("{number} {}", u8::from(stale.unwrap_or(true)))),
-        OnFilter::Dump => told(name, Ok(()), |number, _| format!("{number} {}", dumped(filter))),
+        OnFilter::ReadPar => told(name, filter.read_params(), |par| bits(&par.unwrap_or_default().numbers())),
+        OnFilter::ReadStale => told(name, filter.read_stale(), |stale| format!(" {}", u8::from(stale.unwrap_or(true)))),
+        OnFilter::Dump => told(name, Ok(()), |_| format!(" {}", dumped(filter))),
     }
 }
 
-/// An answer of a number alone.
+/// An answer of a number and its place alone.
 fn bare(call: &str, outcome: Result<(), Trouble>) -> Result<Told, String> {
-    told(call, outcome, |number, _| number.to_string())
+    told(call, outcome, |_| String::new())
 }
 
-fn told<A>(call: &str, outcome: Result<A, Trouble>, text: impl FnOnce(u8, Option<A>) -> String) -> Result<Told, String> {
-    match outcome {
-        Ok(answer) => Ok(Told { call: call.into(), number: 0, more: String::new(), text: text(0, Some(answer)) }),
-        Err(Trouble::Refused(stop)) => {
-            Ok(Told { call: call.into(), number: stop.number, more: stop.step.into(), text: text(stop.number, None) })
-        }
-        Err(Trouble::Parted(why)) => Err(format!("{call}: {why}")),
-    }
+/// An answer: the number, its place, and what else there is to say.
+fn told<A>(call: &str, outcome: Result<A, Trouble>, rest: impl FnOnce(Option<A>) -> String) -> Result<Told, String> {
+    let (number, place, step, answer) = match outcome {
+        Ok(answer) => (0, 0, "", Some(answer)),
+        Err(Trouble::Refused(refusal)) => (refusal.number(), refusal.place(), refusal.step(), None),
+        Err(Trouble::Parted(why)) => return Err(format!("{call}: {why}")),
+    };
+    Ok(Told { call: call.into(), number, place, more: step.into(), text: format!("{number} {place}{}", rest(answer)) })
 }
 
-/// An answer to a close: x and P where it is accepted.
+/// An answer to a close: x and P where it is accepted. Of a 3 the table tells what was open.
 fn closed(call: &str, outcome: Result<(), Trouble>, filter: &Filter, m: String) -> Result<Told, String> {
-    let told = bare(call, outcome)?;
-    if told.number != 0 {
-        return Ok(told);
-    }
-    Ok(Told { more: format!("n={}{m}", filter.n), text: format!("0 x{} P{}", bits(&filter.x), bits(&filter.p)), ..told })
+    let told = told(call, outcome, |done| done.map(|()| format!(" x{} P{}", bits(&filter.x), bits(&filter.p))).unwrap_or_default())?;
+    let more = match told.number {
+        0 => format!("n={}{m}", filter.n),
+        3 => filter.open.name().into(),
+        _ => told.more,
+    };
+    Ok(Told { more, ..told })
 }
 
 /// The bits of a number; every NaN is written alike.
@@ -281,14 +314,13 @@ fn dumped(filter: &Filter) -> String {
         Open::Prediction => 'p',
         Open::Correction => 'c',
     };
-    let par = filter.par;
     format!(
         "n {} x{} P{} Q{} par{} kinds{} w{} pts{} stale {} open {} dw{} dpts{}",
         filter.n,
         bits(&filter.x),
         bits(&filter.p),
         bits(&filter.q),
-        bits(&[par.alpha, par.beta, par.kappa]),
+        bits(&filter.par.numbers()),
         kinds,
         bits(&filter.weights),
         bits(&filter.points),
@@ -342,7 +374,7 @@ impl Setting {
     fn fault(&self, filter: &Filter) -> Option<u8> {
         let new = Filter::new(filter.n as u64, &filter.x, &filter.p, &filter.q, filter.par);
         match new.and_then(|mut new| self.put(&mut new)) {
-            Err(Trouble::Refused(stop)) => Some(stop.number),
+            Err(Trouble::Refused(refusal)) => Some(refusal.number()),
             _ => None,
         }
     }

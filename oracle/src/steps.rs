@@ -2,6 +2,7 @@
 //! Shares no code with the leaves that lie under the published Rust, so that the two can be held against each other.
 
 use crate::kinds::Kind;
+use crate::refusal::Refusal;
 
 #[derive(Clone, Copy, Debug, Default, PartialEq)]
 pub struct Params {
@@ -10,11 +11,10 @@ pub struct Params {
     pub kappa: f64,
 }
 
-/// A step that refuses: the number, and the step's name for the table of what was met.
-#[derive(Clone, Copy, Debug, PartialEq)]
-pub struct Stop {
-    pub number: u8,
-    pub step: &'static str,
+impl Params {
+    pub fn numbers(self) -> [f64; 3] {
+        [self.alpha, self.beta, self.kappa]
+    }
 }
 
 pub struct Weights {
@@ -44,16 +44,16 @@ pub fn all_finite(numbers: &[f64]) -> bool {
 }
 
 /// The numbers as they are, or 9 in this step's name.
-fn checked(numbers: Vec<f64>, step: &'static str) -> Result<Vec<f64>, Stop> {
+fn checked(numbers: Vec<f64>, step: &'static str) -> Result<Vec<f64>, Refusal> {
     if all_finite(&numbers) {
         Ok(numbers)
     } else {
-        Err(Stop { number: 9, step })
+        Err(Refusal::Range(step))
     }
 }
 
-/// d×d factor of a, reading its lower triangle, column after column; +0 above the diagonal.
-fn factor(a: &[f64], d: usize, pivot: Stop, entry: &'static str) -> Result<Vec<f64>, Stop> {
+/// d×d factor of a, reading its lower triangle, column after column; +0 above the diagonal. A bad pivot is refused by its row.
+fn factor(a: &[f64], d: usize, pivot: fn(usize) -> Refusal, entry: &'static str) -> Result<Vec<f64>, Refusal> {
     let mut l = vec![0.0; d * d];
     for j in 0..d {
         for i in j..d {
@@ -63,13 +63,13 @@ fn factor(a: &[f64], d: usize, pivot: Stop, entry: &'static str) -> Result<Vec<f
             }
             if i == j {
                 if !rest.is_finite() || rest <= 0.0 {
-                    return Err(pivot);
+                    return Err(pivot(j));
                 }
                 l[j * d + j] = rest.sqrt();
             } else {
                 l[i * d + j] = rest / l[j * d + j];
                 if !l[i * d + j].is_finite() {
-                    return Err(Stop { number: 9, step: entry });
+                    return Err(Refusal::Range(entry));
                 }
             }
         }
@@ -109,8 +109,8 @@ fn times_transposed(a: &[f64], b: &[f64], rows: usize, columns: usize, d: usize)
 }
 
 /// The 2n+1 points, point after point.
-pub fn draw(n: usize, x: &[f64], p: &[f64], total: f64) -> Result<Vec<f64>, Stop> {
-    let l = factor(p, n, Stop { number: 7, step: "P's pivot" }, "P's factor entry")?;
+pub fn draw(n: usize, x: &[f64], p: &[f64], total: f64) -> Result<Vec<f64>, Refusal> {
+    let l = factor(p, n, Refusal::Pivot, "P's factor entry")?;
     let s = total.sqrt();
     let mut points = x[..n].to_vec();
     for j in 0..n {
@@ -190,7 +190,7 @@ pub struct Prediction<'a> {
 }
 
 /// x and P after a prediction.
-pub fn predict(given: &Prediction) -> Result<(Vec<f64>, Vec<f64>), Stop> {
+pub fn predict(given: &Prediction) -> Result<(Vec<f64>, Vec<f64>), Refusal> {
     let n = given.n;
     let x = checked(mean(given.propagated, n, given.kinds, given.w0m, given.wi), "mean")?;
     let dx = deviations(given.propagated, n, given.kinds, &x);
@@ -246,7 +246,7 @@ pub struct Corrected {
 }
 
 /// Both closes of a correction. They differ in their means and sums, not in the order of their steps; from C on they are one.
-pub fn correct(given: &Correction) -> Result<Corrected, Stop> {
+pub fn correct(given: &Correction) -> Result<Corrected, Refusal> {
     let (n, m) = (given.n, given.m);
     let z_mean = checked(given.mean(given.observed, m, given.measured), "z mean")?;
     let dz = deviations(given.observed, m, given.measured, &z_mean);
@@ -254,7 +254,7 @@ pub fn correct(given: &Correction) -> Result<Corrected, Stop> {
     let x_mean = checked(given.mean(given.points, n, given.kinds), "x mean")?;
     let dx = deviations(given.points, n, given.kinds, &x_mean);
     let c = checked(given.spread(&dx, &dz, n, m), "cross covariance")?;
-    let l = factor(&s, m, Stop { number: 8, step: "S's pivot" }, "S's factor entry")?;
+    let l = factor(&s, m, Refusal::Innov, "S's factor entry")?;
     let v = checked(inverse(&l, m), "inverse")?;
     let k = checked(times_transposed(&c, &v, n, m, m), "gain")?;
     let y = checked((0..m).map(|j| given.measured[j].fixed(given.z[j] - z_mean[j])).collect(), "y")?;

@@ -1,4 +1,4 @@
-//! Document 01's cases, the flat close, the settings and the pairs of document 02's A1, A3 and A4 and the example of docs/SCRIPT.md, held to answers written by hand.
+//! Document 01's cases, the flat close, settings, pairs and places of document 02's A1, A3, A4 and A5 and the example of docs/SCRIPT.md, held to answers written by hand.
 
 use oracle::script::Reader;
 
@@ -22,11 +22,11 @@ fn example_of_the_script() {
         openc 3
         closec 1 1 4008000000000000 1 4028000000000000 p p p p 3 4000000000000000 4010000000000000 0000000000000000";
     let expected = [
-        "0",
-        "0 3 4000000000000000 4010000000000000 0000000000000000",
-        "0 x 4000000000000000 P 4014000000000000",
-        "0 3 4000000000000000 4010000000000000 0000000000000000",
-        "0 x 4002000000000000 P 4010000000000000",
+        "0 0",
+        "0 0 3 4000000000000000 4010000000000000 0000000000000000",
+        "0 0 x 4000000000000000 P 4014000000000000",
+        "0 0 3 4000000000000000 4010000000000000 0000000000000000",
+        "0 0 x 4002000000000000 P 4010000000000000",
     ];
     assert_eq!(answers(script), expected);
 }
@@ -36,7 +36,7 @@ fn example_of_the_script() {
 fn lines() {
     let long = |length: usize| format!("root 4010000000000000{}", " ".repeat(length - 21));
     let last = |line: &str| answers(line).pop();
-    let four = Some("0 4000000000000000".to_string());
+    let four = Some("0 0 4000000000000000".to_string());
     let bad = Some("bad".to_string());
     assert_eq!(last(&long(16_384)), four);
     assert_eq!(last(&long(16_385)), bad);
@@ -45,16 +45,16 @@ fn lines() {
     assert_eq!(last("   # root"), None);
     assert_eq!(last("root 401000000000000"), bad);
     assert_eq!(last("root 4010000000000000 0"), bad);
-    assert_eq!(last("readx 512").map(|answer| answer.len()), Some("1 512".len() + 512 * 17));
+    assert_eq!(last("readx 512").map(|answer| answer.len()), Some("1 0 512".len() + 512 * 17));
     assert_eq!(last("readx 513"), bad);
     assert_eq!(last("readx +1"), bad);
-    assert_eq!(last("root 7FF0000000000001"), Some("5".into()));
-    assert_eq!(last("closef 1 0 0 0"), Some("3".into()));
+    assert_eq!(last("root 7FF0000000000001"), Some("56 0".into()));
+    assert_eq!(last("closef 1 0 0 0"), Some("3 0".into()));
     assert_eq!(last("closef 1 0 0"), bad);
     assert_eq!(last("closef 1 0 0 p p p p 0"), bad);
-    assert_eq!(last("@1 abandon"), Some("3".into()));
-    assert_eq!(last(" @2\tsetq 0 # on the empty pair"), Some("1".into()));
-    assert_eq!(last("newpair 0 0 0 0 0 0 0000000000000000 0000000000000000 0000000000000000"), Some("1".into()));
+    assert_eq!(last("@1 abandon"), Some("3 0".into()));
+    assert_eq!(last(" @2\tsetq 0 # on the empty pair"), Some("1 0".into()));
+    assert_eq!(last("newpair 0 0 0 0 0 0 0000000000000000 0000000000000000 0000000000000000"), Some("1 0".into()));
     assert_eq!(last("newpair 0 0 0 0 0 0000000000000000 0000000000000000 0000000000000000"), bad);
     for call in [
         "",
@@ -72,5 +72,5 @@ fn lines() {
         assert_eq!(last(side), bad, "{side}");
     }
     assert_eq!(last("@1 new 0 0 0 0 0000000000000000 0000000000000000 0000000000000000"), bad);
-    assert_eq!(last("point 1 0 3 7FF0000000000001 FFF0000000000000 8000000000000000"), Some("0 0 1 7ff8000000000000".into()));
+    assert_eq!(last("point 1 0 3 7FF0000000000001 FFF0000000000000 8000000000000000"), Some("0 0 0 1 7ff8000000000000".into()));
 }

@@ -15,7 +15,7 @@ fn every_refusal_is_met() {
         calls += usize::from(reader.answer(line).expect("the published Rust and the documents agree").is_some());
     }
     assert_eq!(calls, 20_000);
-    assert_eq!(holes(&reader.table), Vec::<String>::new());
+    assert_eq!(holes(&reader.table, &reader.places), Vec::<String>::new());
     for (call, number, _) in reader.table.keys() {
         let expected = call == "bad" || numbers().any(|(c, numbers)| c == *call && numbers.contains(number));
         assert!(expected, "{call} gave {number}");

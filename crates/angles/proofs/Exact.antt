@@ -12,7 +12,7 @@ use lib.Ieee.{Float, nan, inf, fin, Format, low, below, level, neg, add, sub, re
 use lib.Ieee.Fits.{cond-fits, add-fits, sub-fits, rem-fits, eq→eqb}
 use lib.Ieee.Exact.{HasValue}
 use lib.Ieee.Scale.{finite}
-use Rattle.floats.specs.Refusal.{NUMBER, PARAM, Outcome, refused, accepted, refusal, or, unless}
+use Rattle.floats.specs.Refusal.{badLone, PARAM, Outcome, refused, accepted, refusal, or, unless}
 use Rattle.floats.specs.Numbers.{plusZero, allFinite}
 use Rattle.angles.specs.Wrap.{wrapStep, brought, halfTurn, wrapOf, wrapped}
 use Rattle.angles.specs.Kinds.{turned, throughOf, kindOf}
@@ -218,7 +218,7 @@ unfolding wrapOf halfTurn allFinite
 outcome-exact f d h w fd fh = go (finite d) (finite h) (lt plusZero h) (finite (add f h h)) (λ a b c e. wraps f d h fd a fh b c e)
   where
     go : (a b c e : Bool) → (T a → T b → T c → T e → Wraps f d h (wrapStep f d h))
-        → unless (a && (b && true)) NUMBER (unless (c && e) PARAM (accepted (wrapStep f d h))) ≡ accepted w → Wraps f d h w
+        → unless (a && (b && true)) badLone (unless (c && e) PARAM (accepted (wrapStep f d h))) ≡ accepted w → Wraps f d h w
     go true true true true k z = let q : wrapStep f d h ≡ w = cc in subst (λ (x : Float). Wraps f d h x) q (k tt tt tt tt)
     go true true true false k z = let q : _≡_ {A = ℕ} 0 1 = cc in absurd (omega arith)
     go true true false e k z = let q : _≡_ {A = ℕ} 0 1 = cc in absurd (omega arith)
@@ -226,10 +226,10 @@ outcome-exact f d h w fd fh = go (finite d) (finite h) (lt plusZero h) (finite (
     go false b c e k z = let q : _≡_ {A = ℕ} 0 1 = cc in absurd (omega arith)
 
 -- The same of what the public wrap hands back: a value that is not refused is exact.
-pub wrap-exact : (f : Format) (d h : Float) → T (fits f d) → T (fits f h) → wrapped (wrapOf f d h) .refusal ≡ 0 → Wraps f d h (wrapped (wrapOf f d h) .value)
+pub wrap-exact : (f : Format) (d h : Float) → T (fits f d) → T (fits f h) → wrapped (wrapOf f d h) .refusal .number ≡ 0 → Wraps f d h (wrapped (wrapOf f d h) .value)
 wrap-exact f d h fd fh = go (wrapOf f d h) refl
   where
-    go : (o : Outcome Float) → wrapOf f d h ≡ o → refusal o ≡ 0 → Wraps f d h (or plusZero o)
+    go : (o : Outcome Float) → wrapOf f d h ≡ o → refusal o .number ≡ 0 → Wraps f d h (or plusZero o)
     go (refused r) e z = absurd (omega (arith, number-above r))
     go (accepted w) e z = outcome-exact f d h w fd fh e
 
@@ -241,7 +241,7 @@ through-exact f h d fd nd fh = go (finite h) (lt plusZero h) (finite (add f h h)
     turn : Kind
     turn = record { residual = Turn h }
 
-    go : (b c e : Bool) → (T b → T c → T e → Wraps f d h (wrapStep f d h)) → unless (b && true) NUMBER (unless (c && e) PARAM (accepted turn)) ≡ accepted turn → Wraps f d h (wrapStep f d h)
+    go : (b c e : Bool) → (T b → T c → T e → Wraps f d h (wrapStep f d h)) → unless b badLone (unless (c && e) PARAM (accepted turn)) ≡ accepted turn → Wraps f d h (wrapStep f d h)
     go true true true k z = k tt tt tt
     go true true false k z = let q : _≡_ {A = ℕ} 0 1 = cc in absurd (omega arith)
     go true false e k z = let q : _≡_ {A = ℕ} 0 1 = cc in absurd (omega arith)

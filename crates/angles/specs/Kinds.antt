@@ -1,9 +1,9 @@
 -- Residual kinds: plain, or a turn that carries its half-turn h. Definitions only.
 use mathlib.Core.Bool.{Bool, true, false}
-use mathlib.Core.List.{List, [], _∷_}
 use lib.Ieee.{Float, Format}
-use Rattle.floats.specs.Refusal.{NUMBER, PARAM, Outcome, accepted, unless}
-use Rattle.floats.specs.Numbers.{allFinite}
+use lib.Ieee.Scale.{finite}
+use Rattle.floats.specs.Refusal.{badLone, PARAM, Outcome, accepted, unless}
+use Rattle.floats.specs.Numbers.{plusZero}
 use Rattle.angles.specs.Wrap.{wrapStep, halfTurn}
 use Rattle.angles.specs.declared.Residual.{Residual}
 use Rattle.angles.specs.declared.Residual.the-variants.{Plain, Turn}
@@ -28,16 +28,19 @@ turned f (Turn h) d = wrapStep f d h
 abbrev pub throughOf : Format → Kind → Float → Float
 throughOf f k d = turned f (k .residual) d
 
--- the numbers that a kind brings in
-abbrev pub numbersIn : Residual → List Float
-numbersIn Plain = []
-numbersIn (Turn h) = h ∷ []
+-- the number that a kind brings in: its half-turn; of a plain one +0, which nothing refuses, so that each kind of a list keeps its place
+abbrev pub half : Residual → Float
+half Plain = plusZero
+half (Turn h) = h
+
+abbrev pub halfOf : Kind → Float
+halfOf k = half (k .residual)
 
 -- whether it passes 6
 abbrev pub passes : Format → Residual → Bool
 passes f Plain = true
 passes f (Turn h) = halfTurn f h
 
--- the check of a kind: 5 where h isn't finite, then 6
+-- the check of a kind: 56 where h isn't finite, then 6
 abbrev pub kindOf : Format → Kind → Outcome Kind
-kindOf f k = unless (allFinite (numbersIn (k .residual))) NUMBER (unless (passes f (k .residual)) PARAM (accepted k))
+kindOf f k = unless (finite (halfOf k)) badLone (unless (passes f (k .residual)) PARAM (accepted k))

@@ -3,7 +3,7 @@ use mathlib.Core.Bool.{Bool, _&&_, cond}
 use mathlib.Core.List.{[], _∷_}
 use lib.Ieee.{Float, Format, neg, add, sub, rem, lt, le}
 use lib.Ieee.Scale.{finite}
-use Rattle.floats.specs.Refusal.{NUMBER, PARAM, Outcome, accepted, refusal, or, unless}
+use Rattle.floats.specs.Refusal.{badLone, PARAM, Outcome, accepted, refusal, or, unless}
 use Rattle.floats.specs.Numbers.{plusZero, allFinite}
 use Rattle.angles.specs.declared.Wrapped.{Wrapped}
 
@@ -21,11 +21,11 @@ module _ (f : Format) where
   unfoldable pub halfTurn : Float → Bool
   halfTurn h = lt plusZero h && finite (add f h h)
 
-  -- callers may wrap too: 5 where d or h isn't finite, then 6
+  -- callers may wrap too: 56 where d or h isn't finite, then 6
   unfoldable pub wrapOf : Float → Float → Outcome Float
   unfolding wrapStep halfTurn
-  wrapOf d h = unless (allFinite (d ∷ h ∷ [])) NUMBER (unless (halfTurn h) PARAM (accepted (wrapStep d h)))
+  wrapOf d h = unless (allFinite (d ∷ h ∷ [])) badLone (unless (halfTurn h) PARAM (accepted (wrapStep d h)))
 
--- the number and the value; refused, it gives +0
+-- the number with its place, and the value; refused, it gives +0
 abbrev pub wrapped : Outcome Float → Wrapped
 wrapped o = record { refusal = refusal o; value = or plusZero o }

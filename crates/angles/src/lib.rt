@@ -3,7 +3,8 @@ ghost use mathlib.Core.Path.{_≡_};
 ghost use lib.Ieee.{binary64};
 ghost use Rattle.floats.specs.Refusal.{refusal};
 ghost use Rattle.angles.specs.Wrap.{wrapStep, halfTurn, wrapOf, wrapped};
-ghost use Rattle.angles.specs.Kinds.{throughOf, kindOf};
+ghost use Rattle.angles.specs.Kinds.{throughOf, halfOf, passes, kindOf};
+use floats::Verdict;
 
 // The wrap's lines for any bits, as a step uses them: a d that isn't finite comes out not finite. It judges nothing: an h that 6 would refuse gives what the lines give.
 fn wrap_step(d: f64, h: f64) -> f64
@@ -30,31 +31,31 @@ fn is_half_turn(h: f64) -> bool
     false
 }
 
-// What a wrap answers: the refusal, or 0, and the wrapped value, +0 where it is refused.
+// What a wrap answers: number and place, and the wrapped value, +0 where it is refused.
 pub struct Wrapped {
-    pub refusal: u8,
+    pub refusal: Verdict,
     pub value: f64,
 }
 
-// The wrap for any caller: 5 where d or h isn't finite, 6 where h isn't above 0 or 2h isn't finite.
+// The wrap for any caller: 56 where d or h isn't finite, 6 where h isn't above 0 or 2h isn't finite; at place 0.
 pub fn wrap(d: f64, h: f64) -> Wrapped
     ensures { λ r. ⌜ r ≡ wrapped (wrapOf binary64 d h) ⌝ }
 {
     let given = [d, h];
     if !floats::all_finite(&given, 2) {
         return Wrapped {
-            refusal: 5,
+            refusal: floats::placeless(56),
             value: 0.0,
         };
     }
     if !is_half_turn(h) {
         return Wrapped {
-            refusal: 6,
+            refusal: floats::placeless(6),
             value: 0.0,
         };
     }
     Wrapped {
-        refusal: 0,
+        refusal: floats::placeless(0),
         value: wrap_step(d, h),
     }
 }
@@ -81,21 +82,37 @@ pub fn through_kind(k: Kind, d: f64) -> f64
     }
 }
 
-// The check of a kind: 5 where its half-turn isn't finite, 6 where it isn't above 0 or twice it isn't finite, else 0.
-pub fn kind_refusal(k: Kind) -> u8
-    ensures { λ r. ⌜ r ≡ refusal (kindOf binary64 k) ⌝ }
+// The number that a kind brings in: its half-turn, and of a plain one +0.
+pub fn half_of(k: Kind) -> f64
+    ensures { λ r. ⌜ r ≡ halfOf k ⌝ }
 {
     let residual = k.residual;
     match residual {
-        Residual::Plain => 0,
-        Residual::Turn(h) => {
-            if !floats::is_finite(h) {
-                return 5;
-            }
-            if !is_half_turn(h) {
-                return 6;
-            }
-            0
-        }
+        Residual::Plain => 0.0,
+        Residual::Turn(h) => h,
     }
+}
+
+// What 6 asks of a kind: a turn's h above 0 and 2h finite.
+pub fn kind_passes(k: Kind) -> bool
+    ensures { λ r. ⌜ r ≡ passes binary64 (k .residual) ⌝ }
+{
+    let residual = k.residual;
+    match residual {
+        Residual::Plain => true,
+        Residual::Turn(h) => is_half_turn(h),
+    }
+}
+
+// The check of a kind: 56 where its half-turn isn't finite, 6 where it isn't above 0 or twice it isn't finite, else 0; at place 0.
+pub fn kind_refusal(k: Kind) -> Verdict
+    ensures { λ r. ⌜ r ≡ refusal (kindOf binary64 k) ⌝ }
+{
+    if !floats::is_finite(half_of(k)) {
+        return floats::placeless(56);
+    }
+    if !kind_passes(k) {
+        return floats::placeless(6);
+    }
+    floats::placeless(0)
 }

@@ -8,6 +8,7 @@ ghost use Rattle.correction.specs.Leaves.{innovationOf, shiftedOf, widen
 ghost use Rattle.correction.specs.Correct.{applyPlan, given, correctOf};
 use angles::Kind;
 use angles::Residual;
+use floats::Verdict;
 use matrix::factor;
 use matrix::factor::Pivots;
 use matrix::inverse;
@@ -94,44 +95,47 @@ fn apply_correction(
     let nm = n * m;
     let nn = n * n;
     if !floats::all_finite(zm, m) {
-        return predict::refuse(9);
+        return predict::refuse(9, 0);
     }
     if !floats::all_finite(s, mm) {
-        return predict::refuse(9);
+        return predict::refuse(9, 0);
     }
     if !floats::all_finite(xm, n) {
-        return predict::refuse(9);
+        return predict::refuse(9, 0);
     }
     if !floats::all_finite(c, nm) {
-        return predict::refuse(9);
+        return predict::refuse(9, 0);
     }
     let f = factor::cholesky_decompose_lower(s, m, Pivots::OfS);
-    if f.refusal != 0 {
-        return predict::refuse(f.refusal);
+    if f.refusal.number != 0 {
+        return predict::refuse(f.refusal.number, f.refusal.place);
     }
     let v = inverse::invert_l_cholesky(&f.l, m);
     if !floats::all_finite(&v, mm) {
-        return predict::refuse(9);
+        return predict::refuse(9, 0);
     }
     let k = product::mult_transb(c, n, &v, m, m);
     if !floats::all_finite(&k, nm) {
-        return predict::refuse(9);
+        return predict::refuse(9, 0);
     }
     let y = innovation(m, z, zm, measured);
     if !floats::all_finite(&y, m) {
-        return predict::refuse(9);
+        return predict::refuse(9, 0);
     }
     let x1 = shifted(n, m, x, &k, &y);
     if !floats::all_finite(&x1, n) {
-        return predict::refuse(9);
+        return predict::refuse(9, 0);
     }
     let ck = product::mult_transb(c, n, &k, n, m);
     let p1 = sums::minus(nn, p, &ck);
     if !floats::all_finite(&p1, nn) {
-        return predict::refuse(9);
+        return predict::refuse(9, 0);
     }
     Moments {
-        refusal: 0,
+        refusal: Verdict {
+            number: 0,
+            place: 0,
+        },
         x: x1,
         p: p1,
     }

@@ -27,40 +27,40 @@ use Rattle.demands.proofs.Leftover.{step-cases}
 
 module _ (f : Format) (s : Filter) where
   -- a call that is taken: its plan is accepted, and it does what that has made
-  taken-ran : (c : Call) → step f s c .reply .refusal ≡ 0 → (d : Done) × (run (plan f (seen s) c) ≡ accepted d) × (step f s c ≡ stepped s (accepted d))
+  taken-ran : (c : Call) → step f s c .reply .refusal .number ≡ 0 → (d : Done) × (run (plan f (seen s) c) ≡ accepted d) × (step f s c ≡ stepped s (accepted d))
   unfolding step
   taken-ran c = by-cases P never f (asks (seen s) c) (run (plan f (seen s) c)) (λ p. run-cases (λ (d : Done). run (plan f (seen s) c) ≡ accepted d) P never (plan f (seen s) c) (λ d e. e) (λ d e z. (d, e, refl)))
     where
       P : Outcome Done → Type 0
-      P o = stepped s o .reply .refusal ≡ 0 → (d : Done) × (run (plan f (seen s) c) ≡ accepted d) × (stepped s o ≡ stepped s (accepted d))
+      P o = stepped s o .reply .refusal .number ≡ 0 → (d : Done) × (run (plan f (seen s) c) ≡ accepted d) × (stepped s o ≡ stepped s (accepted d))
 
       never : (r : Refusal) → P (refused r)
       never r e = absurd (omega (arith, number-above r))
 
   -- the same where the plan is accepted with d alone
-  pub taken-step : (c : Call) (d : Done) → Ran (plan f (seen s) c) (λ (a : Done). a ≡ d) → step f s c .reply .refusal ≡ 0 → step f s c ≡ stepped s (accepted d)
+  pub taken-step : (c : Call) (d : Done) → Ran (plan f (seen s) c) (λ (a : Done). a ≡ d) → step f s c .reply .refusal .number ≡ 0 → step f s c ≡ stepped s (accepted d)
   taken-step c d h e = let t = taken-ran c e in t .2 ∙ ap (λ (x : Done). stepped s (accepted x)) (h (t .0) (t .1))
 
   -- ---- closes
 
   -- a close that installs the points v once its steps p are done
-  closed-as : (c : Call) (v : List Float) (stale : Bool) (p : Plan Moment) → plan f (seen s) c ≡ mapped (closed (s .track .«drawn_weights») v stale) p → step f s c .reply .refusal ≡ 0 → step f s c .filter ≡ closedWith s v stale (made p .x) (made p .p)
+  closed-as : (c : Call) (v : List Float) (stale : Bool) (p : Plan Moment) → plan f (seen s) c ≡ mapped (closed (s .track .«drawn_weights») v stale) p → step f s c .reply .refusal .number ≡ 0 → step f s c .filter ≡ closedWith s v stale (made p .x) (made p .p)
   closed-as c v stale p is e =
       let g = closed (s .track .«drawn_weights») v stale in
       ap (λ (t : Stepped). t .filter) (taken-step c (g (made p)) (rw is (ran-mapped _ g p (λ a k. ap g (ran-made p a k)))) e)
 
-  pub prediction-closed : (v : List Float) → let c = closing (close-prediction v) in step f s c .reply .refusal ≡ 0
+  pub prediction-closed : (v : List Float) → let c = closing (close-prediction v) in step f s c .reply .refusal .number ≡ 0
       → step f s c .filter ≡ (let m = made (predicting f s v) in closedWith s (propagatedOf f s v) false (m .x) (m .p))
   prediction-closed v e = let c = closing (close-prediction v) in closed-as c (propagatedOf f s v) false (predicting f s v) (predicting-is f s v (taken-fits f s c e)) e
 
   -- a correction, weighted and flat
-  pub correction-closed : (m : ℕ) (z r : List Float) (kinds : List Kind) (observed : List Float) → let c = closing (close-correction m z r kinds observed) in step f s c .reply .refusal ≡ 0
+  pub correction-closed : (m : ℕ) (z r : List Float) (kinds : List Kind) (observed : List Float) → let c = closing (close-correction m z r kinds observed) in step f s c .reply .refusal .number ≡ 0
       → step f s c .filter ≡ (let h = weightedFrom f s m z r kinds observed in closedWith s (s .track .«drawn_points») true (state f h) (covariance f h))
   correction-closed m z r kinds observed e =
       let c = closing (close-correction m z r kinds observed) in
       closed-as c (s .track .«drawn_points») true (applyPlan f (weightedFrom f s m z r kinds observed)) (correcting-is f s m z r kinds observed (taken-fits f s c e)) e
 
-  pub flat-correction-closed : (m : ℕ) (z r observed : List Float) → let c = closing (close-correction-flat m z r observed) in step f s c .reply .refusal ≡ 0
+  pub flat-correction-closed : (m : ℕ) (z r observed : List Float) → let c = closing (close-correction-flat m z r observed) in step f s c .reply .refusal .number ≡ 0
       → step f s c .filter ≡ (let h = flatFrom f s m z r observed in closedWith s (s .track .«drawn_points») true (state f h) (covariance f h))
   flat-correction-closed m z r observed e =
       let c = closing (close-correction-flat m z r observed) in
@@ -72,41 +72,41 @@ module _ (f : Format) (s : Filter) where
   abbrev pub DrawnBy : SetCall → (Weighted → Setting) → Type 0
   DrawnBy c to = (v : List Float) × (run (drawing f s) ≡ accepted v) × (step f s (setting c) ≡ stepped s (accepted (opened to (s .sheet .n) (weightsOf f (s .sheet .n) (s .sheet .params)) v)))
 
-  drawn-so : (c : SetCall) (to : Weighted → Setting) → plan f (seen s) (setting c) ≡ draws f to (seen s) → step f s (setting c) .reply .refusal ≡ 0 → DrawnBy c to
+  drawn-so : (c : SetCall) (to : Weighted → Setting) → plan f (seen s) (setting c) ≡ draws f to (seen s) → step f s (setting c) .reply .refusal .number ≡ 0 → DrawnBy c to
   drawn-so c to is e =
       let t = taken-ran (setting c) e in
       let v = mapped-ran (opened to (s .sheet .n) (weightsOf f (s .sheet .n) (s .sheet .params))) (drawing f s) (t .0) (ap run (sym is) ∙ t .1) in
       (v .0, v .1, t .2 ∙ ap (λ (x : Done). stepped s (accepted x)) (v .2))
 
   module _ (b : List Float) where
-    pub prediction-opened : step f s (setting (open-prediction b)) .reply .refusal ≡ 0 → DrawnBy (open-prediction b) opened-prediction
+    pub prediction-opened : step f s (setting (open-prediction b)) .reply .refusal .number ≡ 0 → DrawnBy (open-prediction b) opened-prediction
     prediction-opened e = drawn-so (open-prediction b) opened-prediction refl e
 
-    pub correction-opened-afresh : s .track .stale ≡ true → step f s (setting (open-correction b)) .reply .refusal ≡ 0 → DrawnBy (open-correction b) opened-correction
+    pub correction-opened-afresh : s .track .stale ≡ true → step f s (setting (open-correction b)) .reply .refusal .number ≡ 0 → DrawnBy (open-correction b) opened-correction
     correction-opened-afresh h e = drawn-so (open-correction b) opened-correction (rw h) e
 
     -- with the current points and weights
-    pub correction-opened : s .track .stale ≡ false → step f s (setting (open-correction b)) .reply .refusal ≡ 0 → step f s (setting (open-correction b)) ≡ stepped s (accepted (opened opened-correction (s .sheet .n) (s .track .weights) (s .track .points)))
+    pub correction-opened : s .track .stale ≡ false → step f s (setting (open-correction b)) .reply .refusal .number ≡ 0 → step f s (setting (open-correction b)) ≡ stepped s (accepted (opened opened-correction (s .sheet .n) (s .track .weights) (s .track .points)))
     correction-opened h e = taken-step (setting (open-correction b)) (opened opened-correction (s .sheet .n) (s .track .weights) (s .track .points)) (rw h (ran-finish _ _ refl)) e
 
   -- ---- changes of the sheet, and settings
 
   -- one that is taken has made its change
-  finished-taken : (c : Call) (u : Change) → plan f (seen s) c ≡ finish (done u []) → step f s c .reply .refusal ≡ 0 → step f s c .filter ≡ changed s u
+  finished-taken : (c : Call) (u : Change) → plan f (seen s) c ≡ finish (done u []) → step f s c .reply .refusal .number ≡ 0 → step f s c .filter ≡ changed s u
   finished-taken c u is e = ap (λ (t : Stepped). t .filter) (taken-step c (done u []) (rw is (ran-finish _ _ refl)) e)
 
-  pub writing-taken : (c : SheetCall) → step f s (writing c) .reply .refusal ≡ 0 → step f s (writing c) .filter ≡ changed s (writes (writingOf (s .sheet) c))
+  pub writing-taken : (c : SheetCall) → step f s (writing c) .reply .refusal .number ≡ 0 → step f s (writing c) .filter ≡ changed s (writes (writingOf (s .sheet) c))
   writing-taken c e = finished-taken (writing c) _ refl e
 
-  pub setting-taken : (c : SetCall) (u : Setting) → plan f (seen s) (setting c) ≡ finish (done (sets u) []) → step f s (setting c) .reply .refusal ≡ 0 → step f s (setting c) .filter ≡ changed s (sets u)
+  pub setting-taken : (c : SetCall) (u : Setting) → plan f (seen s) (setting c) ≡ finish (done (sets u) []) → step f s (setting c) .reply .refusal .number ≡ 0 → step f s (setting c) .filter ≡ changed s (sets u)
   setting-taken c u is e = finished-taken (setting c) (sets u) is e
 
-  pub writing-marked : (c : SheetCall) → step f s (writing c) .reply .refusal ≡ 0 → step f s (writing c) .filter .track .stale ≡ (sheetMarks c || s .track .stale)
+  pub writing-marked : (c : SheetCall) → step f s (writing c) .reply .refusal .number ≡ 0 → step f s (writing c) .filter .track .stale ≡ (sheetMarks c || s .track .stale)
   writing-marked (set-q v) e = ap (λ (t : Filter). t .track .stale) (writing-taken (set-q v) e)
   writing-marked (set-params p) e = ap (λ (t : Filter). t .track .stale) (writing-taken (set-params p) e)
   writing-marked (set-kind i k) e = ap (λ (t : Filter). t .track .stale) (writing-taken (set-kind i k) e)
 
-  pub setting-marked : (c : SetCall) → step f s (setting c) .reply .refusal ≡ 0 → step f s (setting c) .filter .track .stale ≡ (marks c || s .track .stale)
+  pub setting-marked : (c : SetCall) → step f s (setting c) .reply .refusal .number ≡ 0 → step f s (setting c) .filter .track .stale ≡ (marks c || s .track .stale)
   setting-marked (set-x v) e = ap (λ (t : Filter). t .track .stale) (setting-taken (set-x v) _ refl e)
   setting-marked (set-p v) e = ap (λ (t : Filter). t .track .stale) (setting-taken (set-p v) _ refl e)
   setting-marked (open-prediction b) e = ap (λ (t : Stepped). t .filter .track .stale) (prediction-opened b e .2)

@@ -12,13 +12,13 @@ use Rattle.floats.specs.Numbers.{plusZero, zeros, allFinite}
 use Rattle.floats.specs.Fronts.{front}
 use Rattle.floats.proofs.Finite.{all-append, all-zeros}
 use Rattle.floats.proofs.Fronts.{length-front}
-use Rattle.angles.specs.Kinds.{numbersIn, plain}
+use Rattle.angles.specs.Kinds.{halfOf, plain}
 use Rattle.angles.specs.declared.Kind.{Kind}
 use Rattle.matrix.specs.Folds.{placesOf}
 use Rattle.matrix.proofs.Cells.{length-zeros, zeros-at}
 use Rattle.sigma.proofs.Accepted.{InUse}
 use Rattle.filter.specs.Asked.{by-kind, fit, every}
-use Rattle.filter.specs.Calls.{inKinds, asKinds}
+use Rattle.filter.specs.Calls.{halves, asKinds}
 use Rattle.demands.specs.Sound.{Filled}
 use Rattle.demands.proofs.Passed.{both, both-true}
 
@@ -96,12 +96,13 @@ plain-past (suc k) zero = refl
 plain-past (suc k) (suc i) = plain-past k i
 
 module _ (k : Kind) where
-  pub kinds-finite : (ks : List Kind) (i : ℕ) → allFinite (inKinds ks) ≡ true → allFinite (numbersIn (k .residual)) ≡ true → allFinite (inKinds (set ks i k)) ≡ true
-  kinds-finite [] i h g = h
-  kinds-finite (j ∷ ks) zero h g = all-both (numbersIn (k .residual)) (inKinds ks) g (all-parts (numbersIn (j .residual)) (inKinds ks) h .1)
-  kinds-finite (j ∷ ks) (suc i) h g =
-      let p = all-parts (numbersIn (j .residual)) (inKinds ks) h in
-      all-both (numbersIn (j .residual)) (inKinds (set ks i k)) (p .0) (kinds-finite ks i (p .1) g)
+  halves-set : (ks : List Kind) (i : ℕ) → halves (set ks i k) ≡ set (halves ks) i (halfOf k)
+  halves-set [] i = refl
+  halves-set (j ∷ ks) zero = refl
+  halves-set (j ∷ ks) (suc i) = ap (λ (v : List Float). halfOf j ∷ v) (halves-set ks i)
+
+  pub kinds-finite : (ks : List Kind) (i : ℕ) → allFinite (halves ks) ≡ true → finite (halfOf k) ≡ true → allFinite (halves (set ks i k)) ≡ true
+  kinds-finite ks i h g = rw (halves-set ks i) (all-set (halves ks) i (halfOf k) h g)
 
   pub kinds-fit : (f : Format) (ks : List Kind) (i : ℕ) → every (fit f) (asKinds ks) ≡ true → fit f (by-kind k) ≡ true → every (fit f) (asKinds (set ks i k)) ≡ true
   kinds-fit f [] i h g = h

@@ -1,5 +1,6 @@
--- The steps give 5, 7, 8 and 9 alone. Assumes nothing.
+-- The steps give 56 at 0, 7, 8 and 9 alone. Assumes nothing.
 use Prim.Native.Nat.{ℕ, zero, suc, _+_, _-_, _*_}
+use mathlib.Core.Path.{refl}
 use mathlib.Core.List.{List, [], _∷_, _++_}
 use lib.ListN.{set}
 use lib.Ieee.{Float, Format, div}
@@ -29,7 +30,7 @@ own-append (u ∷ us) vs (and h e) g = and h (own-append us vs e g)
 module _ (f : Format) where
   -- ---- the factor
 
-  module _ (r : Refusal) (own : ByStep r) (a : List Float) (n : ℕ) where
+  module _ (r : ℕ → Refusal) (own : (j : ℕ) → ByStep (r j)) (a : List Float) (n : ℕ) where
     rows-own : (j : ℕ) (d : Float) (m i : ℕ) (l : List Float) → StepsOwn (results (rowsFrom f r a n j d m i l))
     unfolding rowsFrom
     rows-own j d zero i l = end
@@ -37,7 +38,7 @@ module _ (f : Format) where
 
     column-own : (j : ℕ) (l : List Float) → StepsOwn (results (columnOf f r a n j l))
     unfolding columnOf
-    column-own j l = let d = rootOf f (leftOf f r a n j j l) in and own (rows-own j d (n - (j + 1)) (j + 1) (set l (j * n + j) d))
+    column-own j l = let d = rootOf f (leftOf f r a n j j l) in and (own j) (rows-own j d (n - (j + 1)) (j + 1) (set l (j * n + j) d))
 
     columns-own : (m j : ℕ) (l : List Float) → StepsOwn (results (columnsFrom f r a n m j l))
     unfolding columnsFrom
@@ -52,7 +53,7 @@ module _ (f : Format) where
   -- ---- the steps of an opening that draws, and of a correction
 
   pub draw-own : (n : ℕ) (x p : List Float) (scale : Float) → StepsOwn (planned (drawPlan f n x p scale))
-  draw-own n x p scale = own-append (results (factorOf f PIVOT p n)) _ (factor-own PIVOT tt p n) (and tt (and tt end))
+  draw-own n x p scale = own-append (results (factorOf f PIVOT p n)) _ (factor-own PIVOT (λ j. tt) p n) (and refl (and tt end))
 
   pub correct-own : (h : Head) → StepsOwn (planned (applyPlan f h))
-  correct-own h = and tt (and tt (and tt (and tt (own-append (results (factorOf f INNOV (h .s) (h .m))) _ (factor-own INNOV tt (h .s) (h .m)) (and tt (and tt (and tt (and tt (and tt end)))))))))
+  correct-own h = and tt (and tt (and tt (and tt (own-append (results (factorOf f INNOV (h .s) (h .m))) _ (factor-own INNOV (λ j. tt) (h .s) (h .m)) (and tt (and tt (and tt (and tt (and tt end)))))))))

@@ -3,6 +3,7 @@ use mathlib.Core.Path.{_≡_, refl}
 use mathlib.Core.List.{[]}
 use lib.Ieee.{ofInt, ofBits, toBits, add, sub, mul, rem, div, neg, lt, le, size, odd}
 use Rattle.floats.specs.Numbers.{allFinite, aboveZero, zeros}
+use Rattle.floats.specs.Search.{searched, searchedFrom}
 use Rattle.floats.specs.Fronts.{front}
 use Rattle.root.specs.Definition.{rootOf, rooted, rootUnits, nearRoot, floorRoot}
 use Rattle.angles.specs.Wrap.{wrapOf, halfTurn, wrapStep, brought}
@@ -23,5 +24,5 @@ use Rattle.demands.specs.Written.{_is_, _are_, failing}
 use Rattle.demands.specs.Cases.{cases}
 
 pub claim : failing cases ≡ []
-unfolding _is_ _are_ ofInt ofBits toBits add sub mul rem div neg lt le size odd allFinite aboveZero zeros front rootOf rooted rootUnits nearRoot floorRoot wrapOf halfTurn wrapStep brought totalOf placesOf builtOf rowOf rowsOf worked run rowsFrom columnOf columnsFrom unitAt lambdaOf scaleOf w0mOf w0cOf wiOf weightsPass pointAt inRange guarded step newOf tells told pairStep newPairOf pairTells pairTold
+unfolding _is_ _are_ ofInt ofBits toBits add sub mul rem div neg lt le size odd allFinite aboveZero zeros front rootOf rooted rootUnits nearRoot floorRoot wrapOf halfTurn wrapStep brought totalOf placesOf builtOf rowOf rowsOf worked run rowsFrom columnOf columnsFrom unitAt lambdaOf scaleOf w0mOf w0cOf wiOf weightsPass pointAt inRange guarded searched searchedFrom step newOf tells told pairStep newPairOf pairTells pairTold
 claim = refl

@@ -20,12 +20,24 @@ use Rattle.floats.proofs.is_above_zero.Kinds as is-above-zero-of
 use Rattle.floats.proofs.is_above_zero.Reads as is-above-zero
 use Rattle.floats.proofs.all_finite.Kinds as all-finite-of
 use Rattle.floats.proofs.all_finite.Reads as all-finite
+use Rattle.floats.proofs.placeless.Kinds as placeless-of
+use Rattle.floats.proofs.placeless.Reads as placeless
+use Rattle.floats.proofs.earlier.Kinds as earlier-of
+use Rattle.floats.proofs.earlier.Reads as earlier
+use Rattle.floats.proofs.first_bad.Kinds as first-bad-of
+use Rattle.floats.proofs.first_bad.Reads as first-bad
+use Rattle.floats.proofs.next_bad.Kinds as next-bad-of
+use Rattle.floats.proofs.next_bad.Reads as next-bad
 use Rattle.root.proofs.square_root.Kinds as square-root-of
 use Rattle.root.proofs.square_root.Reads as square-root
 use Rattle.angles.proofs.wrap.Kinds as wrap-of
 use Rattle.angles.proofs.wrap.Reads as wrap
 use Rattle.angles.proofs.through_kind.Kinds as through-kind-of
 use Rattle.angles.proofs.through_kind.Reads as through-kind
+use Rattle.angles.proofs.half_of.Kinds as half-of-of
+use Rattle.angles.proofs.half_of.Reads as half-of
+use Rattle.angles.proofs.kind_passes.Kinds as kind-passes-of
+use Rattle.angles.proofs.kind_passes.Reads as kind-passes
 use Rattle.angles.proofs.kind_refusal.Kinds as kind-refusal-of
 use Rattle.angles.proofs.kind_refusal.Reads as kind-refusal
 use Rattle.matrix.proofs.sums.row.Kinds as row-of
@@ -198,6 +210,18 @@ is-above-zero-one κs a z z′ w w′ p q = (by p q, refl)
 pub all-finite-one : OneAnswer all-finite-of.ps all-finite-of.r all-finite.Learnt
 all-finite-one κs a z z′ w w′ p q = (by p q, refl)
 
+pub placeless-one : OneAnswer placeless-of.ps placeless-of.r placeless.Learnt
+placeless-one κs a z z′ w w′ p q = (by p q, refl)
+
+pub earlier-one : OneAnswer earlier-of.ps earlier-of.r earlier.Learnt
+earlier-one κs a z z′ w w′ p q = (by p q, refl)
+
+pub first-bad-one : OneAnswer first-bad-of.ps first-bad-of.r first-bad.Learnt
+first-bad-one κs a z z′ w w′ p q = (by p q, refl)
+
+pub next-bad-one : OneAnswer next-bad-of.ps next-bad-of.r next-bad.Learnt
+next-bad-one κs a z z′ w w′ p q = (by p q, refl)
+
 pub square-root-one : OneAnswer square-root-of.ps square-root-of.r square-root.Learnt
 square-root-one κs a z z′ w w′ p q = (one-case z z′ (by p q), refl)
 
@@ -206,6 +230,12 @@ wrap-one κs a z z′ w w′ p q = (by p q, refl)
 
 pub through-kind-one : OneAnswer through-kind-of.ps through-kind-of.r through-kind.Learnt
 through-kind-one κs a z z′ w w′ p q = (by p q, refl)
+
+pub half-of-one : OneAnswer half-of-of.ps half-of-of.r half-of.Learnt
+half-of-one κs a z z′ w w′ p q = (by p q, refl)
+
+pub kind-passes-one : OneAnswer kind-passes-of.ps kind-passes-of.r kind-passes.Learnt
+kind-passes-one κs a z z′ w w′ p q = (by p q, refl)
 
 pub kind-refusal-one : OneAnswer kind-refusal-of.ps kind-refusal-of.r kind-refusal.Learnt
 kind-refusal-one κs a z z′ w w′ p q = (by p q, refl)

@@ -1,19 +1,26 @@
--- Demand 1: a call ends with a result or one of the refusals, each exactly when its row says; what is refused changes nothing; every number handed out is finite. Over every format. Assumes nothing.
-use Prim.Native.Nat.{ℕ, _*_, _≤_}
-use mathlib.Core.Path.{_≡_, refl}
+-- Demand 1: a call ends with a result or one of the refusals, each exactly when its row says, with its place; what is refused changes nothing; every number handed out is finite. Over every format. Assumes nothing.
+use Prim.Native.Nat.{ℕ, _*_, _<_, _≤_}
+use mathlib.Core.Path.{_≡_, refl, ap}
 use mathlib.Core.Bool.{true, false, cond}
-use mathlib.Core.List.{List, [], _∷_, _++_}
+use mathlib.Core.List.{List, [], _∷_}
 use mathlib.Core.Logic.{_↔_, _≢_, _⊎_}
+use native.Mathlib.Omega.{arith}
 use lib.ListN.{length, take}
 use lib.Ieee.{Float, Format, add}
-use Rattle.floats.specs.Refusal.{Refusal, NUMBER, PARAM, SIZE, STAGE, STALE, KIND, number, refusal}
+use Rattle.floats.specs.declared.Slice.{Slice}
+use Rattle.floats.specs.declared.Slice.the-variants.{State, Covariance, Noise, Lone}
+use Rattle.floats.specs.Refusal.{Refusal, NUMBER, PARAM, SIZE, STAGE, STALE, KIND, PIVOT, INNOV, badLone, number, placeOf, verdict, taken, refused, refusal}
+use Rattle.floats.specs.Search.{Input}
+use Rattle.floats.proofs.Refusals.{number-of}
 use Rattle.floats.specs.Numbers.{plusZero, zeros, allFinite}
 use Rattle.floats.specs.Fronts.{front, over}
 use Rattle.root.specs.Answer.{rootOutcome}
 use Rattle.angles.specs.Wrap.{wrapOf, wrapped}
-use Rattle.angles.specs.Kinds.{numbersIn, kindOf}
+use Rattle.angles.specs.Kinds.{halfOf, kindOf}
 use Rattle.angles.specs.declared.Kind.{Kind}
-use Rattle.matrix.specs.Results.{planned}
+use Rattle.matrix.specs.Results.{worked, planned}
+use Rattle.matrix.specs.Factor.{factorOf}
+use Rattle.matrix.proofs.FactorRows.{BadPivot, row-exactly}
 use Rattle.sigma.specs.declared.Params.{Params}
 use Rattle.sigma.specs.Weights.{scaleOf, w0mOf}
 use Rattle.sigma.specs.Draw.{pointNumbers}
@@ -24,13 +31,14 @@ use Rattle.filter.specs.Calls.{Call, setting, closing, open-prediction, open-co
 use Rattle.filter.specs.Steps.{step, paramsRead, staleRead}
 use Rattle.filter.specs.New.{emptySheet, emptyTrack, empty, Start, from, newAsks, startAsks, newSheet, newTrack, newAnswer}
 use Rattle.filter.specs.Point.{pointAsks, pointRefusal, pointOf}
-use Rattle.demands.specs.Rows.{Some, NotFinite, NotAbove, Below, OutOfRange, IsTurn, IsFlat, Measurable, UnfitTurn, FirstFails, Cause, Applies, Due, ByStep, Neither}
+use Rattle.demands.specs.Rows.{Some, NotFinite, NotAbove, Below, OutOfRange, FirstBad, searches, IsTurn, IsFlat, Measurable, UnfitTurn, FirstFails, Cause, Applies, Due, ByStep, Neither}
 use Rattle.demands.specs.Listed.{listedAtOpen, listedAtPrediction, listedAtCorrection}
 use Rattle.demands.specs.Runs.{told}
 use Rattle.demands.specs.Sound.{Sound, Tidy, Reached, Yielded, handedOut, Each}
 use Rattle.demands.proofs.Exactly.{exactly, taken-exactly, new-exactly, new-taken, new-track-exactly, new-sheet-exactly, point-exactly, point-taken, wrap-exactly, wrap-taken, wrap-refused, root-exactly, kind-exactly, kind-taken, ends-so, refused-unwritten, refused-values, new-refused, new-track-refused, new-sheet-refused, point-refused}
+use Rattle.demands.proofs.Places.{one-bad, told-by, verdict-row}
 use Rattle.demands.proofs.Listed.{open-prediction-lists, open-correction-lists, close-prediction-lists, close-correction-lists, close-correction-flat-lists}
-use Rattle.demands.proofs.Table.{steps-give, stage-exactly, states-first, kind-only, never-stale, never-param}
+use Rattle.demands.proofs.Table.{searches-so, steps-give, stage-exactly, states-first, kind-only, never-stale, never-param}
 use Rattle.demands.proofs.Turned.{turned-away-exactly}
 use Rattle.demands.proofs.Sound.{sound, tidy, all-handed-finite}
 use Rattle.demands.proofs.Opening.{opening-prediction, opening-correction}
@@ -39,34 +47,34 @@ use Rattle.demands.proofs.Unread.{kinds-unread}
 module _ (f : Format) where
   -- ---- a result or a refusal, exactly when
 
-  -- Any call on any bits ends with 0 or with one of the numbers of the table, 1 to 10;
-  pub a-result-or-a-refusal : (s : Filter) (c : Call) → (step f s c .reply .refusal ≡ 0) ⊎ ((r : Refusal) × (step f s c .reply .refusal ≡ number r))
+  -- Any call on any bits ends with 0 at place 0, or with a refusal's number at its place;
+  pub a-result-or-a-refusal : (s : Filter) (c : Call) → (step f s c .reply .refusal ≡ taken) ⊎ ((r : Refusal) × (step f s c .reply .refusal ≡ verdict r))
   a-result-or-a-refusal = ends-so f
 
-  -- a number is given exactly when its row of the table applies and no row before it in the order does,
-  pub exactly-when : (s : Filter) (c : Call) (r : Refusal) → (step f s c .reply .refusal ≡ number r) ↔ Due f (asks (seen s) c) (planned (plan f (seen s) c)) r
+  -- a number at its place is given exactly when its row of the table applies there and no row before it in the order does,
+  pub exactly-when : (s : Filter) (c : Call) (r : Refusal) → (step f s c .reply .refusal ≡ verdict r) ↔ Due f (asks (seen s) c) (planned (plan f (seen s) c)) r
   exactly-when = exactly f
 
   -- and the call is taken exactly when no row applies.
-  pub taken-when : (s : Filter) (c : Call) → (step f s c .reply .refusal ≡ 0) ↔ ((d : Cause) → Applies f (asks (seen s) c) (planned (plan f (seen s) c)) d → ⊥)
+  pub taken-when : (s : Filter) (c : Call) → (step f s c .reply .refusal .number ≡ 0) ↔ ((d : Cause) → Applies f (asks (seen s) c) (planned (plan f (seen s) c)) d → ⊥)
   taken-when = taken-exactly f
 
-  -- The same of New, which has no steps. It asks for 1 to 8 states, for slices that are long enough, for finite numbers in x, P, Q and the parameters, and for parameters that pass 6;
+  -- The same of New, which has no steps. It asks for 1 to 8 states, for slices that are long enough, for finite numbers, searched in x, P, Q and the parameters in this order, and for parameters that pass 6;
   pub new-asks : (n : ℕ) (x p q : List Float) (params : Params) → newAsks n (from x p ∷ []) q params ≡ record {
     fits = true;
     sizes = record { value = n; from = 1; to = 8 } ∷ [];
     lent = record { slice = x; needs = n } ∷ record { slice = p; needs = n * n } ∷ record { slice = q; needs = n * n } ∷ [];
     stale = false;
-    inputs = (take n x ++ take (n * n) p) ++ (take (n * n) q ++ (params .alpha ∷ params .beta ∷ params .kappa ∷ []));
+    inputs = record { slice = State; numbers = take n x } ∷ record { slice = Covariance; numbers = take (n * n) p } ∷ record { slice = Noise; numbers = take (n * n) q } ∷ record { slice = Lone; numbers = params .alpha ∷ params .beta ∷ params .kappa ∷ [] } ∷ [];
     plain = [];
     params = by-params n params ∷ [];
   }
   new-asks n x p q params = refl
 
-  pub new-exactly-when : (n : ℕ) (x p q : List Float) (params : Params) (r : Refusal) → (newAnswer f n x p q params .refusal ≡ number r) ↔ Due f (newAsks n (from x p ∷ []) q params) [] r
+  pub new-exactly-when : (n : ℕ) (x p q : List Float) (params : Params) (r : Refusal) → (newAnswer f n x p q params .refusal ≡ verdict r) ↔ Due f (newAsks n (from x p ∷ []) q params) [] r
   new-exactly-when = new-exactly f
 
-  pub new-taken-when : (n : ℕ) (x p q : List Float) (params : Params) → (newAnswer f n x p q params .refusal ≡ 0) ↔ ((d : Cause) → Applies f (newAsks n (from x p ∷ []) q params) [] d → ⊥)
+  pub new-taken-when : (n : ℕ) (x p q : List Float) (params : Params) → (newAnswer f n x p q params .refusal .number ≡ 0) ↔ ((d : Cause) → Applies f (newAsks n (from x p ∷ []) q params) [] d → ⊥)
   new-taken-when = new-taken f
 
   -- of its parts by themselves, a track, which asks for n, x and P, and a sheet, which asks for n, Q and the parameters,
@@ -75,7 +83,7 @@ module _ (f : Format) where
     sizes = record { value = n; from = 1; to = 8 } ∷ [];
     lent = record { slice = x; needs = n } ∷ record { slice = p; needs = n * n } ∷ [];
     stale = false;
-    inputs = take n x ++ take (n * n) p;
+    inputs = record { slice = State; numbers = take n x } ∷ record { slice = Covariance; numbers = take (n * n) p } ∷ [];
     plain = [];
     params = [];
   }
@@ -86,66 +94,87 @@ module _ (f : Format) where
     sizes = record { value = n; from = 1; to = 8 } ∷ [];
     lent = record { slice = q; needs = n * n } ∷ [];
     stale = false;
-    inputs = take (n * n) q ++ (params .alpha ∷ params .beta ∷ params .kappa ∷ []);
+    inputs = record { slice = Noise; numbers = take (n * n) q } ∷ record { slice = Lone; numbers = params .alpha ∷ params .beta ∷ params .kappa ∷ [] } ∷ [];
     plain = [];
     params = by-params n params ∷ [];
   }
   sheet-asks n q params = refl
 
-  pub track-exactly-when : (n : ℕ) (s : Start) (r : Refusal) → (newTrack f n s .refusal ≡ number r) ↔ Due f (startAsks n s) [] r
+  pub track-exactly-when : (n : ℕ) (s : Start) (r : Refusal) → (newTrack f n s .refusal ≡ verdict r) ↔ Due f (startAsks n s) [] r
   track-exactly-when = new-track-exactly f
 
-  pub sheet-exactly-when : (n : ℕ) (q : List Float) (params : Params) (r : Refusal) → (newSheet f n q params .refusal ≡ number r) ↔ Due f (newAsks n [] q params) [] r
+  pub sheet-exactly-when : (n : ℕ) (q : List Float) (params : Params) (r : Refusal) → (newSheet f n q params .refusal ≡ verdict r) ↔ Due f (newAsks n [] q params) [] r
   sheet-exactly-when = new-sheet-exactly f
 
   -- of point k of a lent list,
-  pub point-exactly-when : (l : List Float) (n k : ℕ) (r : Refusal) → (pointRefusal f l n k ≡ number r) ↔ Due f (pointAsks f l n k) [] r
+  pub point-exactly-when : (l : List Float) (n k : ℕ) (r : Refusal) → (pointRefusal f l n k ≡ verdict r) ↔ Due f (pointAsks f l n k) [] r
   point-exactly-when = point-exactly f
 
-  pub point-taken-when : (l : List Float) (n k : ℕ) → (pointRefusal f l n k ≡ 0) ↔ ((d : Cause) → Applies f (pointAsks f l n k) [] d → ⊥)
+  pub point-taken-when : (l : List Float) (n k : ℕ) → (pointRefusal f l n k .number ≡ 0) ↔ ((d : Cause) → Applies f (pointAsks f l n k) [] d → ⊥)
   point-taken-when = point-taken f
 
-  -- of the wrap: 5 exactly when d or h isn't finite, 6 exactly when both are and h isn't above 0 or 2h isn't finite, and no other number,
+  -- of the wrap: 56 at 0 exactly when d or h isn't finite, 6 exactly when both are and h isn't above 0 or 2h isn't finite, and no other number,
   pub wrap-exactly-when : (d h : Float) (r : Refusal)
-      → (refusal (wrapOf f d h) ≡ number r) ↔ (((r ≡ NUMBER) × (NotFinite d ⊎ NotFinite h)) ⊎ ((r ≡ PARAM) × (NotFinite d ⊎ NotFinite h → ⊥) × (NotAbove h ⊎ NotFinite (add f h h))))
+      → (refusal (wrapOf f d h) ≡ verdict r) ↔ (((r ≡ badLone) × (NotFinite d ⊎ NotFinite h)) ⊎ ((r ≡ PARAM) × (NotFinite d ⊎ NotFinite h → ⊥) × (NotAbove h ⊎ NotFinite (add f h h))))
   wrap-exactly-when = wrap-exactly f
 
-  pub wrap-taken-when : (d h : Float) → (refusal (wrapOf f d h) ≡ 0) ↔ ((NotFinite d ⊎ NotFinite h → ⊥) × (NotAbove h ⊎ NotFinite (add f h h) → ⊥))
+  pub wrap-taken-when : (d h : Float) → (refusal (wrapOf f d h) .number ≡ 0) ↔ ((NotFinite d ⊎ NotFinite h → ⊥) × (NotAbove h ⊎ NotFinite (add f h h) → ⊥))
   wrap-taken-when = wrap-taken f
 
   -- a refused wrap gives +0,
-  pub refused-wrap : (d h : Float) → wrapped (wrapOf f d h) .refusal ≢ 0 → wrapped (wrapOf f d h) .value ≡ plusZero
+  pub refused-wrap : (d h : Float) → wrapped (wrapOf f d h) .refusal .number ≢ 0 → wrapped (wrapOf f d h) .value ≡ plusZero
   refused-wrap = wrap-refused f
 
-  -- of the root: 5 exactly when x isn't finite or is below zero, and no other number,
-  pub root-exactly-when : (x : Float) (r : Refusal) → (refusal (rootOutcome f x) ≡ number r) ↔ ((r ≡ NUMBER) × (NotFinite x ⊎ Below x))
+  -- of the root: 56 at 0 exactly when x isn't finite or is below zero, and no other number,
+  pub root-exactly-when : (x : Float) (r : Refusal) → (refusal (rootOutcome f x) ≡ verdict r) ↔ ((r ≡ badLone) × (NotFinite x ⊎ Below x))
   root-exactly-when = root-exactly f
 
-  -- and of the check of a kind.
+  -- and of the check of a kind (the half-turn of a plain one is +0, which is finite).
   pub kind-exactly-when : (k : Kind) (r : Refusal)
-      → (refusal (kindOf f k) ≡ number r) ↔ (((r ≡ NUMBER) × Some NotFinite (numbersIn (k .residual))) ⊎ ((r ≡ PARAM) × (Some NotFinite (numbersIn (k .residual)) → ⊥) × UnfitTurn f (k .residual)))
+      → (refusal (kindOf f k) ≡ verdict r) ↔ (((r ≡ badLone) × NotFinite (halfOf k)) ⊎ ((r ≡ PARAM) × (NotFinite (halfOf k) → ⊥) × UnfitTurn f (k .residual)))
   kind-exactly-when = kind-exactly f
 
-  pub kind-taken-when : (k : Kind) → (refusal (kindOf f k) ≡ 0) ↔ ((Some NotFinite (numbersIn (k .residual)) → ⊥) × (UnfitTurn f (k .residual) → ⊥))
+  pub kind-taken-when : (k : Kind) → (refusal (kindOf f k) .number ≡ 0) ↔ ((NotFinite (halfOf k) → ⊥) × (UnfitTurn f (k .residual) → ⊥))
   kind-taken-when = kind-taken f
 
   -- So 3 is given exactly when the call doesn't fit what is open, and n outside 1 to 8 gets 1 from every call that 3 doesn't stop.
-  pub stage-when : (s : Filter) (c : Call) → (step f s c .reply .refusal ≡ number STAGE) ↔ (fits c (s .track .stage) ≡ false)
+  pub stage-when : (s : Filter) (c : Call) → (step f s c .reply .refusal ≡ verdict STAGE) ↔ (fits c (s .track .stage) ≡ false)
   stage-when = stage-exactly f
 
-  pub size-when : (s : Filter) (c : Call) → OutOfRange (record { value = s .sheet .n; from = 1; to = 8 }) → fits c (s .track .stage) ≡ true → step f s c .reply .refusal ≡ number SIZE
+  pub size-when : (s : Filter) (c : Call) → OutOfRange (record { value = s .sheet .n; from = 1; to = 8 }) → fits c (s .track .stage) ≡ true → step f s c .reply .refusal ≡ verdict SIZE
   size-when = states-first f
 
   -- 10 is given by the flat close alone, and exactly when a correction is open, there are 1 to 8 states and 1 to 4 measurements, the slices are long enough and their numbers finite, and one of the first n kinds is a turn.
-  pub kind-by-flat-alone : (s : Filter) (c : Call) → step f s c .reply .refusal ≡ number KIND → IsFlat c
+  pub kind-by-flat-alone : (s : Filter) (c : Call) → step f s c .reply .refusal ≡ verdict KIND → IsFlat c
   kind-by-flat-alone = kind-only f
 
-  pub kind-when : (s : Filter) (m : ℕ) (z r observed : List Float) → (step f s (closing (close-correction-flat m z r observed)) .reply .refusal ≡ number KIND) ↔ (Measurable s m z r observed × Some IsTurn (take (s .sheet .n) (s .sheet .kinds)))
+  pub kind-when : (s : Filter) (m : ℕ) (z r observed : List Float) → (step f s (closing (close-correction-flat m z r observed)) .reply .refusal ≡ verdict KIND) ↔ (Measurable s m z r observed × Some IsTurn (take (s .sheet .n) (s .sheet .kinds)))
   kind-when = turned-away-exactly f
 
   -- The flat close never gives 4 or 6: stale doesn't stop it, and nothing that it is lent has to pass 6.
-  pub flat-correction-never : (s : Filter) (m : ℕ) (z r observed : List Float) → let k = step f s (closing (close-correction-flat m z r observed)) .reply .refusal in (k ≢ number STALE) × (k ≢ number PARAM)
+  pub flat-correction-never : (s : Filter) (m : ℕ) (z r observed : List Float) → let k = step f s (closing (close-correction-flat m z r observed)) .reply .refusal in (k ≢ verdict STALE) × (k ≢ verdict PARAM)
   flat-correction-never s m z r observed = let c = closing (close-correction-flat m z r observed) in (never-stale f s c refl, never-param f s c refl)
+
+  -- ---- places
+
+  -- 51 to 56 tell the place of the first number that isn't finite, of the first slice that has one (`FirstBad`); it is one number at the most;
+  pub one-first-bad : {s t : Slice} {i j : ℕ} {l : List Input} → FirstBad s i l → FirstBad t j l → NUMBER s i ≡ NUMBER t j
+  one-first-bad = one-bad
+
+  -- what a call searches, in this order: a close of a correction R, the observed points and z, and then the half-turns of its own kinds, each at its index; the others the one slice that they are lent, or lone values.
+  pub searched-by : (s : Filter) (c : Call) → asks s c .inputs ≡ searches (s .sheet .n) c
+  searched-by = searches-so
+
+  -- 7 and 8 tell the row of the first bad pivot: it isn't finite or isn't above 0, and the rows before it are right, their pivots good;
+  pub pivot-row : (a : List Float) (n j : ℕ) → n ≤ 8 → (worked (factorOf f PIVOT a n) ≡ refused (PIVOT j)) ↔ BadPivot f PIVOT a n j
+  pivot-row a n j h = row-exactly f PIVOT a n h j (λ i e. verdict-row e) (λ e. omega (arith, number-of (ap verdict e)))
+
+  pub innovation-row : (a : List Float) (n j : ℕ) → n ≤ 8 → (worked (factorOf f INNOV a n) ≡ refused (INNOV j)) ↔ BadPivot f INNOV a n j
+  innovation-row a n j h = row-exactly f INNOV a n h j (λ i e. verdict-row e) (λ e. omega (arith, number-of (ap verdict e)))
+
+  -- and every other answer tells place 0.
+  pub no-other-place : (r : Refusal) → placeOf r ≢ 0 → (50 < number r) ⊎ ((number r ≡ 7) ⊎ (number r ≡ 8))
+  no-other-place = told-by
 
   -- ---- the steps' own numbers: the first result that fails, of those that document 01 lists, in its order
 
@@ -170,15 +199,15 @@ module _ (f : Format) where
   pub listed-at-flat-correction : (s : Filter) (m : ℕ) (z r observed : List Float) → planned (plan f s (closing (close-correction-flat m z r observed))) ≡ listedAtCorrection f (flatFrom f s m z r observed)
   listed-at-flat-correction = close-correction-flat-lists f
 
-  -- Steps give 5, 7, 8 and 9 alone;
+  -- Steps give 56 at 0, 7, 8 and 9 alone;
   pub steps-give-their-own : (s : Filter) (c : Call) (r : Refusal) → FirstFails r (planned (plan f (seen s) c)) → ByStep r
   steps-give-their-own = steps-give f
 
-  -- and opening gives neither 5 nor 6, on any filter that the demands speak of.
-  pub opening-prediction-never : {s : Filter} → Yielded f s → (b : List Float) → Neither (step f s (setting (open-prediction b)) .reply .refusal)
+  -- and opening gives none of 51 to 56 and not 6, on any filter that the demands speak of.
+  pub opening-prediction-never : {s : Filter} → Yielded f s → (b : List Float) → Neither (step f s (setting (open-prediction b)) .reply .refusal .number)
   opening-prediction-never = opening-prediction f
 
-  pub opening-correction-never : {s : Filter} → Yielded f s → (b : List Float) → Neither (step f s (setting (open-correction b)) .reply .refusal)
+  pub opening-correction-never : {s : Filter} → Yielded f s → (b : List Float) → Neither (step f s (setting (open-correction b)) .reply .refusal .number)
   opening-correction-never = opening-correction f
 
   -- Measurement kinds from m up are not read: whatever stands there, the call is the same.
@@ -189,25 +218,25 @@ module _ (f : Format) where
   -- ---- what is refused
 
   -- A refused call leaves the filter and a lent buffer b as they were (`over .. b` is what the contracts say of b at exit);
-  pub refused-changes-nothing : (s : Filter) (c : Call) → step f s c .reply .refusal ≢ 0 → (step f s c .filter ≡ s) × ((b : List Float) → over (step f s c .reply .given) b ≡ b)
+  pub refused-changes-nothing : (s : Filter) (c : Call) → step f s c .reply .refusal .number ≢ 0 → (step f s c .filter ≡ s) × ((b : List Float) → over (step f s c .reply .given) b ≡ b)
   refused-changes-nothing = refused-unwritten f
 
   -- a refused reading of values answers +0, and stale;
-  pub refused-reading : (s : Filter) (c : Call) → step f s c .reply .refusal ≢ 0
+  pub refused-reading : (s : Filter) (c : Call) → step f s c .reply .refusal .number ≢ 0
       → (paramsRead (step f s c .reply) .params ≡ record { alpha = plusZero; beta = plusZero; kappa = plusZero }) × (staleRead (step f s c .reply) .stale ≡ true)
   refused-reading = refused-values f
 
   -- a refused New gives the empty filter, a refused part of it that of the empty filter, and a refused point an empty part.
-  pub refused-new : (n : ℕ) (x p q : List Float) (params : Params) → newAnswer f n x p q params .refusal ≢ 0 → newAnswer f n x p q params .filter ≡ empty
+  pub refused-new : (n : ℕ) (x p q : List Float) (params : Params) → newAnswer f n x p q params .refusal .number ≢ 0 → newAnswer f n x p q params .filter ≡ empty
   refused-new = new-refused f
 
-  pub refused-track : (n : ℕ) (s : Start) → newTrack f n s .refusal ≢ 0 → newTrack f n s .track ≡ emptyTrack
+  pub refused-track : (n : ℕ) (s : Start) → newTrack f n s .refusal .number ≢ 0 → newTrack f n s .track ≡ emptyTrack
   refused-track = new-track-refused f
 
-  pub refused-sheet : (n : ℕ) (q : List Float) (params : Params) → newSheet f n q params .refusal ≢ 0 → newSheet f n q params .sheet ≡ emptySheet
+  pub refused-sheet : (n : ℕ) (q : List Float) (params : Params) → newSheet f n q params .refusal .number ≢ 0 → newSheet f n q params .sheet ≡ emptySheet
   refused-sheet = new-sheet-refused f
 
-  pub refused-point : (l : List Float) (n k : ℕ) → pointRefusal f l n k ≢ 0 → pointOf f l n k ≡ []
+  pub refused-point : (l : List Float) (n k : ℕ) → pointRefusal f l n k .number ≢ 0 → pointOf f l n k ≡ []
   refused-point = point-refused f
 
   -- ---- every number is finite
@@ -216,7 +245,7 @@ module _ (f : Format) where
   pub every-number-is-finite : (s : Filter) → Yielded f s → (cs : List Call) → Each (λ t. allFinite (handedOut t) ≡ true) (told f s cs)
   every-number-is-finite = all-handed-finite f
 
-  -- such a filter is sound: finite where in use, +0 in unused places, its parameters and kinds past 5 and 6, kinds past its states plain, the weights that count those of its parameters, the points of an open call drawn from its x and P or the current ones (Settings has more on that);
+  -- such a filter is sound: finite where in use, +0 in unused places, its parameters and kinds past 56 and 6, kinds past its states plain, the weights that count those of its parameters, the points of an open call drawn from its x and P or the current ones (Settings has more on that);
   pub yielded-is-sound : {s : Filter} → Yielded f s → Sound f s
   yielded-is-sound = sound f
 

@@ -11,7 +11,7 @@ use lib.IntN.{pos}
 use lib.ListN.{getD, take}
 use lib.Ieee.{Float, nan, Format, binary64, fits, add, sub, mul, div, ofInt}
 use lib.Ieee.Scale.{finite}
-use Rattle.floats.specs.Refusal.{Refusal, PIVOT, accepted}
+use Rattle.floats.specs.Refusal.{Refusal, PIVOT, taken, accepted}
 use Rattle.floats.specs.Numbers.{plusZero, zeros}
 use Rattle.floats.specs.Fronts.{front}
 use Rattle.root.specs.Definition.{rootOf, rooted}
@@ -83,7 +83,7 @@ module _ (f : Format) where
   -- ---- Wrap: `wrap` (crate angles) is `wrapOf`; `through_kind` is `throughOf`
 
   -- result and d differ by a whole multiple of 2h, and −h < result ≤ h; a zero has the sign of d
-  pub wrap-is-exact : (d h : Float) → T (fits f d) → T (fits f h) → wrapped (wrapOf f d h) .refusal ≡ 0 → Wraps f d h (wrapped (wrapOf f d h) .value)
+  pub wrap-is-exact : (d h : Float) → T (fits f d) → T (fits f h) → wrapped (wrapOf f d h) .refusal .number ≡ 0 → Wraps f d h (wrapped (wrapOf f d h) .value)
   wrap-is-exact = wrap-exact f
 
   -- so does a finite difference passed through a turn that has passed its check
@@ -103,7 +103,7 @@ module _ (f : Format) where
   -- ---- Factor: `cholesky_decompose_lower` (crate matrix) is `factorOf`
 
   -- L[j][j] is the root of the pivot; under it A[i][j] less the products in turn, divided by L[j][j]; above it +0
-  module _ (r : Refusal) (a : List Float) (n : ℕ) (h : n ≤ 8) (l : List Float) (e : worked (factorOf f r a n) ≡ accepted l) where
+  module _ (r : ℕ → Refusal) (a : List Float) (n : ℕ) (h : n ≤ 8) (l : List Float) (e : worked (factorOf f r a n) ≡ accepted l) where
     pub factor-diagonal : (j : ℕ) → j < n → at l (j * n + j) ≡ rootOf f (totalOf (sub f) (at a (j * n + j)) (λ (k : ℕ). mul f (at l (j * n + k)) (at l (j * n + k))) j)
     factor-diagonal j g = is-factor f r a n h l e .diagonal j g tt .root
 
@@ -289,25 +289,25 @@ module _ (f : Format) where
   -- An accepted open leaves the filter as it was, with what it has drawn beside it (`withDrawn` of filter/specs/Filters.antt), and hands out those points (the reply's `stale` says something only where the mark is read):
   module _ (s : Filter) (b : List Float) where
     abbrev Opens : SetCall → Stage → Weighted → Type 0
-    Opens c t d = step f s (setting c) ≡ record { filter = filter (s .sheet) (withDrawn (s .track) t d); reply = record { refusal = 0; given = take (pointNumbers (s .sheet .n)) (d .points); stale = true } }
+    Opens c t d = step f s (setting c) ≡ record { filter = filter (s .sheet) (withDrawn (s .track) t d); reply = record { refusal = taken; given = take (pointNumbers (s .sheet .n)) (d .points); stale = true } }
 
     -- a prediction, and a correction while stale, the points v that the draw from x and P gives by the parameters, with their weights;
     abbrev Draws : SetCall → Stage → Type 0
     Draws c t = (v : List Float) × (run (drawPlan f (s .sheet .n) (s .track .x) (s .track .p) (scaleOf f (s .sheet .n) (s .sheet .params))) ≡ accepted v) × Opens c t (record { weights = weightsOf f (s .sheet .n) (s .sheet .params); points = v })
 
-    pub prediction-opens : step f s (setting (open-prediction b)) .reply .refusal ≡ 0 → Draws (open-prediction b) Predicting
+    pub prediction-opens : step f s (setting (open-prediction b)) .reply .refusal .number ≡ 0 → Draws (open-prediction b) Predicting
     prediction-opens = prediction-opened f s b
 
-    pub stale-correction-opens : s .track .stale ≡ true → step f s (setting (open-correction b)) .reply .refusal ≡ 0 → Draws (open-correction b) Correcting
+    pub stale-correction-opens : s .track .stale ≡ true → step f s (setting (open-correction b)) .reply .refusal .number ≡ 0 → Draws (open-correction b) Correcting
     stale-correction-opens = correction-opened-afresh f s b
 
     -- a correction while not stale the current ones.
-    pub correction-opens : s .track .stale ≡ false → step f s (setting (open-correction b)) .reply .refusal ≡ 0 → Opens (open-correction b) Correcting (record { weights = s .track .weights; points = s .track .points })
+    pub correction-opens : s .track .stale ≡ false → step f s (setting (open-correction b)) .reply .refusal .number ≡ 0 → Opens (open-correction b) Correcting (record { weights = s .track .weights; points = s .track .points })
     correction-opens = correction-opened f s b
 
   -- An accepted close sets x and P to what its steps have made, installs points and the opened weights, sets the mark, and leaves nothing open and scratch at +0 (`closedWith` of filter/specs/Filters.antt):
   -- a prediction the propagated points, and it is not stale;
-  pub prediction-installs : (s : Filter) (v : List Float) → step f s (closing (close-prediction v)) .reply .refusal ≡ 0
+  pub prediction-installs : (s : Filter) (v : List Float) → step f s (closing (close-prediction v)) .reply .refusal .number ≡ 0
       → step f s (closing (close-prediction v)) .filter
       ≡ (let points = front (pointNumbers (s .sheet .n)) v (zeros 136) in
       let mean = meanOf f points (s .sheet .n) (s .sheet .n + s .sheet .n) (w0mOf f (s .sheet .n) (s .sheet .params)) (s .track .«drawn_weights») (s .sheet .kinds) in
@@ -316,10 +316,10 @@ module _ (f : Format) where
   prediction-installs = prediction-closed f
 
   -- a correction of either sort the opened points, and it is stale.
-  pub correction-installs : (s : Filter) (m : ℕ) (z r : List Float) (kinds : List Kind) (observed : List Float) → step f s (closing (close-correction m z r kinds observed)) .reply .refusal ≡ 0
+  pub correction-installs : (s : Filter) (m : ℕ) (z r : List Float) (kinds : List Kind) (observed : List Float) → step f s (closing (close-correction m z r kinds observed)) .reply .refusal .number ≡ 0
       → step f s (closing (close-correction m z r kinds observed)) .filter ≡ (let h = weightedFrom f s m z r kinds observed in closedWith s (s .track .«drawn_points») true (state f h) (covariance f h))
   correction-installs = correction-closed f
 
-  pub flat-correction-installs : (s : Filter) (m : ℕ) (z r observed : List Float) → step f s (closing (close-correction-flat m z r observed)) .reply .refusal ≡ 0
+  pub flat-correction-installs : (s : Filter) (m : ℕ) (z r observed : List Float) → step f s (closing (close-correction-flat m z r observed)) .reply .refusal .number ≡ 0
       → step f s (closing (close-correction-flat m z r observed)) .filter ≡ (let h = flatFrom f s m z r observed in closedWith s (s .track .«drawn_points») true (state f h) (covariance f h))
   flat-correction-installs = flat-correction-closed f

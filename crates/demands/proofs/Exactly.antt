@@ -8,17 +8,19 @@ use mathlib.Core.Logic.{_↔_, _≢_, _⊎_, inl, inr, ⊎-elim}
 use native.Mathlib.Omega.{arith}
 use lib.Ieee.{Float, Format, add}
 use lib.Ieee.Scale.{finite}
-use Rattle.floats.specs.Refusal.{Refusal, SIZE, SHORT, STAGE, STALE, NUMBER, PARAM, PIVOT, INNOV, RANGE, KIND, number, Outcome, refused, accepted, refusal, or, unless}
+use Rattle.floats.specs.declared.Slice.{Slice}
+use Rattle.floats.specs.Refusal.{Refusal, PARAM, badLone, verdict, taken, Outcome, refused, accepted, refusal, or, unless, onward}
+use Rattle.floats.specs.Search.{searched}
 use Rattle.floats.specs.Numbers.{plusZero, allFinite}
 use Rattle.floats.specs.Fronts.{over}
 use Rattle.root.specs.Definition.{rootOf, rooted}
 use Rattle.root.specs.Answer.{rootOutcome}
 use Rattle.angles.specs.Wrap.{wrapOf, wrapStep, wrapped, halfTurn}
-use Rattle.angles.specs.Kinds.{isPlain, numbersIn, passes, kindOf}
+use Rattle.angles.specs.Kinds.{isPlain, halfOf, passes, kindOf}
 use Rattle.angles.specs.declared.Kind.{Kind}
 use Rattle.matrix.specs.Results.{Result, good, First, now, later, Plan, run, planned}
 use Rattle.matrix.proofs.Flat.{split}
-use Rattle.floats.proofs.Refusals.{number-above}
+use Rattle.floats.proofs.Refusals.{number-above, number-of, verdict-same}
 use Rattle.matrix.proofs.Results.{plan-refused}
 use Rattle.sigma.specs.declared.Params.{Params}
 use Rattle.filter.specs.declared.Filter.{Filter}
@@ -28,40 +30,10 @@ use Rattle.filter.specs.Calls.{Call, asks, Done, plan}
 use Rattle.filter.specs.Steps.{outcome, stepped, step, paramsOf, paramsRead, staleRead}
 use Rattle.filter.specs.New.{emptySheet, emptyTrack, empty, Start, from, newAsks, startAsks, newSheetOf, newSheet, newTrackOf, newTrack, newOf, newAnswer}
 use Rattle.filter.specs.Point.{pointAsks, pointAt, pointRefusal, pointOf}
-use Rattle.demands.specs.Rows.{Some, here, there, NotFinite, NotAbove, Below, OutOfRange, Shorter, IsTurn, UnfitTurn, Unfit, FirstFails, Cause, stage, size, short, stale, met, gives, Applies, place, Due}
+use Rattle.demands.specs.Rows.{Some, here, there, NotFinite, NotAbove, Below, OutOfRange, Shorter, IsTurn, UnfitTurn, Unfit, FirstFails, Cause, stage, size, short, stale, kind, param, met, gives, Applies, rank, Due}
 use Rattle.demands.specs.Rows as Row
+use Rattle.demands.proofs.Places.{search-words, one-bad, no-bad}
 use Rattle.demands.proofs.Rows.{Means, itself, turned, reworded, none, parted, some, ranged, lent-long, all-finite, is-turn, fitting, half-turn, turn, well, rooted-means}
-
--- ---- the number gives back its refusal
-
-named : ℕ → Refusal
-named zero = RANGE
-named (suc zero) = SIZE
-named (suc (suc zero)) = SHORT
-named (suc (suc (suc zero))) = STAGE
-named (suc (suc (suc (suc zero)))) = STALE
-named (suc (suc (suc (suc (suc zero))))) = NUMBER
-named (suc (suc (suc (suc (suc (suc zero)))))) = PARAM
-named (suc (suc (suc (suc (suc (suc (suc zero))))))) = PIVOT
-named (suc (suc (suc (suc (suc (suc (suc (suc zero)))))))) = INNOV
-named (suc (suc (suc (suc (suc (suc (suc (suc (suc zero))))))))) = RANGE
-named (suc (suc (suc (suc (suc (suc (suc (suc (suc (suc n)))))))))) = KIND
-
-named-number : (r : Refusal) → named (number r) ≡ r
-unfolding named
-named-number SIZE = refl
-named-number SHORT = refl
-named-number STAGE = refl
-named-number STALE = refl
-named-number NUMBER = refl
-named-number PARAM = refl
-named-number PIVOT = refl
-named-number INNOV = refl
-named-number RANGE = refl
-named-number KIND = refl
-
-pub number-same : {q r : Refusal} → number q ≡ number r → q ≡ r
-number-same {q} {r} e = sym (named-number q) ∙ ap named e ∙ named-number r
 
 -- ---- the results of the steps
 
@@ -113,58 +85,93 @@ module _ {A : Type 0} where
 cmp : (a b : ℕ) → (a < b) ⊎ ((a ≡ b) ⊎ (b < a))
 cmp a b = ⊎-elim (λ l. inl l) (λ g. inr (⊎-elim (λ l. inr l) (λ h. inl (omega arith)) (split b a))) (split a b)
 
--- the rows before the steps have a place each
+-- the rows before the steps have a rank each; those of 51 to 56 share one
 nth : ℕ → Cause
 nth zero = stage
 nth (suc zero) = size
 nth (suc (suc zero)) = short
 nth (suc (suc (suc zero))) = stale
-nth (suc (suc (suc (suc zero)))) = Row.number
-nth (suc (suc (suc (suc (suc zero))))) = Row.kind
-nth (suc (suc (suc (suc (suc (suc n)))))) = Row.param
+nth (suc (suc (suc (suc zero)))) = kind
+nth (suc (suc (suc (suc (suc zero))))) = kind
+nth (suc (suc (suc (suc (suc (suc n)))))) = param
 
-nth-place : (c : Cause) → place c < 7 → nth (place c) ≡ c
+nth-rank : (c : Cause) → rank c < 7 → rank c ≢ 4 → nth (rank c) ≡ c
 unfolding nth
-nth-place stage h = refl
-nth-place size h = refl
-nth-place short h = refl
-nth-place stale h = refl
-nth-place Row.number h = refl
-nth-place Row.kind h = refl
-nth-place Row.param h = refl
-nth-place (met r) h = absurd (omega arith)
+nth-rank stage h g = refl
+nth-rank size h g = refl
+nth-rank short h g = refl
+nth-rank stale h g = refl
+nth-rank (Row.number s i) h g = absurd (g refl)
+nth-rank kind h g = refl
+nth-rank param h g = refl
+nth-rank (met r) h g = absurd (omega arith)
 
-same-place : (c d : Cause) → place d < 7 → place c ≡ place d → c ≡ d
-same-place c d h e = sym (nth-place c (omega arith)) ∙ ap nth e ∙ nth-place d h
+same-rank : (c d : Cause) → rank d < 7 → rank d ≢ 4 → rank c ≡ rank d → c ≡ d
+same-rank c d h g e = sym (nth-rank c (omega arith) (λ z. g (sym e ∙ z))) ∙ ap nth e ∙ nth-rank d h g
+
+of-search : (c : Cause) → rank c ≡ 4 → (s : Slice) × (i : ℕ) × (c ≡ Row.number s i)
+of-search stage e = absurd (omega arith)
+of-search size e = absurd (omega arith)
+of-search short e = absurd (omega arith)
+of-search stale e = absurd (omega arith)
+of-search (Row.number s i) e = (s, i, refl)
+of-search kind e = absurd (omega arith)
+of-search param e = absurd (omega arith)
+of-search (met r) e = absurd (omega arith)
 
 module _ (f : Format) (a : Asks) (vs : List Result) where
-  late : (c : Cause) → 7 ≤ place c → Applies f a vs c → FirstFails (gives c) vs
+  late : (c : Cause) → 7 ≤ rank c → Applies f a vs c → FirstFails (gives c) vs
   late stage h w = absurd (omega arith)
   late size h w = absurd (omega arith)
   late short h w = absurd (omega arith)
   late stale h w = absurd (omega arith)
-  late Row.number h w = absurd (omega arith)
-  late Row.kind h w = absurd (omega arith)
-  late Row.param h w = absurd (omega arith)
+  late (Row.number s i) h w = absurd (omega arith)
+  late kind h w = absurd (omega arith)
+  late param h w = absurd (omega arith)
   late (met r) h w = w
 
-  -- two rows that apply at one place give one number
-  one-row : (c d : Cause) → place c ≡ place d → Applies f a vs c → Applies f a vs d → gives c ≡ gives d
-  one-row c d e x y = ⊎-elim (λ l. ap gives (same-place c d l e)) (λ g. one-first (late c (omega arith) x) (late d g y)) (split (place d) 7)
+  -- two rows that apply at one rank give one refusal
+  found-one : (c d : Cause) → rank c ≡ 4 → rank d ≡ 4 → Applies f a vs c → Applies f a vs d → gives c ≡ gives d
+  found-one c d e g x y =
+      let p = of-search c e in
+      let q = of-search d g in
+      ap gives (p .2) ∙ one-bad (subst (Applies f a vs) (p .2) x) (subst (Applies f a vs) (q .2) y) ∙ sym (ap gives (q .2))
 
-  -- a right outcome for the rows from place k on
+  one-row : (c d : Cause) → rank c ≡ rank d → Applies f a vs c → Applies f a vs d → gives c ≡ gives d
+  one-row c d e x y =
+      ⊎-elim
+      (λ l. ⊎-elim
+      (λ u. ap gives (same-rank c d l (λ z. omega arith) e))
+      (λ g. ⊎-elim (λ z. found-one c d (e ∙ z) z x y) (λ u. ap gives (same-rank c d l (λ z. omega arith) e)) g)
+      (cmp (rank d) 4))
+      (λ g. one-first (late c (omega arith) x) (late d g y))
+      (split (rank d) 7)
+
+  -- a right outcome for the rows from rank k on
   abbrev Right : {A : Type 0} → ℕ → Outcome A → Type 0
-  Right k (refused r) = (c : Cause) × (gives c ≡ r) × (k ≤ place c) × Applies f a vs c × ((d : Cause) → k ≤ place d → place d < place c → Applies f a vs d → ⊥)
-  Right k (accepted x) = (d : Cause) → k ≤ place d → Applies f a vs d → ⊥
+  Right k (refused r) = (c : Cause) × (gives c ≡ r) × (k ≤ rank c) × Applies f a vs c × ((d : Cause) → k ≤ rank d → rank d < rank c → Applies f a vs d → ⊥)
+  Right k (accepted x) = (d : Cause) → k ≤ rank d → Applies f a vs d → ⊥
 
   module _ {A : Type 0} where
     -- a test in front
-    layer : (t : Bool) (c : Cause) (o : Outcome A) → place c < 7 → Means t (Applies f a vs c) → Right (suc (place c)) o → Right (place c) (unless t (gives c) o)
-    layer false c o h m i = (c, refl, omega arith, m .fails refl, λ d g l x. absurd (omega arith))
-    layer true c (refused r) h m i =
-        (i .0, i .1, omega (arith, i .2), i .3, λ d g l x. ⊎-elim (λ u. absurd (omega arith)) (λ e. ⊎-elim (λ s. m .passes refl (subst (Applies f a vs) (same-place d c h s) x)) (λ u. i .4 d (omega arith) l x) e) (cmp (place d) (place c)))
-    layer true c (accepted y) h m i =
-        λ d g x. ⊎-elim (λ u. absurd (omega arith)) (λ e. ⊎-elim (λ s. m .passes refl (subst (Applies f a vs) (same-place d c h s) x)) (λ u. i d (omega arith) x) e) (cmp (place d) (place c))
+    layer : (t : Bool) (c : Cause) (o : Outcome A) → rank c < 7 → rank c ≢ 4 → Means t (Applies f a vs c) → Right (suc (rank c)) o → Right (rank c) (unless t (gives c) o)
+    layer false c o h g m i = (c, refl, omega arith, m .fails refl, λ d k l x. absurd (omega arith))
+    layer true c (refused r) h g m i =
+        (i .0, i .1, omega (arith, i .2), i .3, λ d k l x. ⊎-elim (λ u. absurd (omega arith)) (λ e. ⊎-elim (λ s. m .passes refl (subst (Applies f a vs) (same-rank d c h g s) x)) (λ u. i .4 d (omega arith) l x) e) (cmp (rank d) (rank c)))
+    layer true c (accepted y) h g m i =
+        λ d k x. ⊎-elim (λ u. absurd (omega arith)) (λ e. ⊎-elim (λ s. m .passes refl (subst (Applies f a vs) (same-rank d c h g s) x)) (λ u. i d (omega arith) x) e) (cmp (rank d) (rank c))
+
+    -- the search in front
+    search : (o : Outcome A) → Right 5 o → Right 4 (onward (searched (a .inputs)) (λ (t : Bool). o))
+    search o i = go (searched (a .inputs)) refl o i
+      where
+        clean : {t : Bool} → searched (a .inputs) ≡ accepted t → (d : Cause) → rank d ≡ 4 → Applies f a vs d → ⊥
+        clean e d g x = let p = of-search d g in no-bad (a .inputs) e (subst (Applies f a vs) (p .2) x)
+
+        go : (q : Outcome Bool) → searched (a .inputs) ≡ q → (o : Outcome A) → Right 5 o → Right 4 (onward q (λ (t : Bool). o))
+        go (refused r) e o i = let w = search-words (a .inputs) r e in (Row.number (w .0) (w .1), sym (w .2), omega arith, w .3, λ d k l x. absurd (omega arith))
+        go (accepted t) e (refused r) i = (i .0, i .1, omega (arith, i .2), i .3, λ d k l x. ⊎-elim (λ u. absurd (omega arith)) (λ g. ⊎-elim (λ s. clean e d s x) (λ u. i .4 d (omega arith) l x) g) (cmp (rank d) 4))
+        go (accepted t) e (accepted y) i = λ d k x. ⊎-elim (λ u. absurd (omega arith)) (λ g. ⊎-elim (λ s. clean e d s x) (λ u. i d (omega arith) x) g) (cmp (rank d) 4)
 
     steps-right : (o : Outcome A) → Ends vs o → Right 7 o
     steps-right (refused r) i = (met r, refl, omega arith, i, λ d g l x. absurd (omega arith))
@@ -173,101 +180,101 @@ module _ (f : Format) (a : Asks) (vs : List Result) where
     right : (o : Outcome A) → Ends vs o → Right 0 (guarded f a o)
     unfolding guarded
     right o i =
-        layer (a .fits) stage _ (omega arith) (itself (a .fits))
-        (layer (every within (a .sizes)) size _ (omega arith) (some within OutOfRange ranged (a .sizes))
-        (layer (every long (a .lent)) short _ (omega arith) (some long Shorter lent-long (a .lent))
-        (layer (not (a .stale)) stale _ (omega arith) (turned (a .stale))
-        (layer (allFinite (a .inputs)) Row.number _ (omega arith) (all-finite (a .inputs))
-        (layer (every isPlain (a .plain)) Row.kind _ (omega arith) (some isPlain IsTurn is-turn (a .plain))
-        (layer (every (fit f) (a .params)) Row.param _ (omega arith) (some (fit f) (Unfit f) (fitting f) (a .params))
+        layer (a .fits) stage _ (omega arith) (λ z. omega arith) (itself (a .fits))
+        (layer (every within (a .sizes)) size _ (omega arith) (λ z. omega arith) (some within OutOfRange ranged (a .sizes))
+        (layer (every long (a .lent)) short _ (omega arith) (λ z. omega arith) (some long Shorter lent-long (a .lent))
+        (layer (not (a .stale)) stale _ (omega arith) (λ z. omega arith) (turned (a .stale))
+        (search _
+        (layer (every isPlain (a .plain)) kind _ (omega arith) (λ z. omega arith) (some isPlain IsTurn is-turn (a .plain))
+        (layer (every (fit f) (a .params)) param _ (omega arith) (λ z. omega arith) (some (fit f) (Unfit f) (fitting f) (a .params))
         (steps-right o i)))))))
 
-    due : (o : Outcome A) (r : Refusal) → Right 0 o → refusal o ≡ number r → Due f a vs r
-    due (refused q) r i e = record { cause = i .0; gives-it = i .1 ∙ number-same e; applies = i .3; no-earlier = λ c l x. i .4 c (omega arith) l x }
-    due (accepted y) r i e = absurd (omega (arith, number-above r))
+    due : (o : Outcome A) (r : Refusal) → Right 0 o → refusal o ≡ verdict r → Due f a vs r
+    due (refused q) r i e = record { cause = i .0; gives-it = i .1 ∙ verdict-same e; applies = i .3; no-earlier = λ c l x. i .4 c (omega arith) l x }
+    due (accepted y) r i e = absurd (omega (arith, number-above r, number-of e))
 
-    due-given : (o : Outcome A) (r : Refusal) → Right 0 o → Due f a vs r → refusal o ≡ number r
+    due-given : (o : Outcome A) (r : Refusal) → Right 0 o → Due f a vs r → refusal o ≡ verdict r
     due-given (refused q) r i d =
         ⊎-elim (λ l. absurd (d .no-earlier (i .0) l (i .3)))
-        (λ g. ⊎-elim (λ e. ap number (sym (i .1) ∙ one-row (i .0) (d .cause) e (i .3) (d .applies) ∙ d .gives-it)) (λ l. absurd (i .4 (d .cause) (omega arith) l (d .applies))) g)
-        (cmp (place (i .0)) (place (d .cause)))
+        (λ g. ⊎-elim (λ e. ap verdict (sym (i .1) ∙ one-row (i .0) (d .cause) e (i .3) (d .applies) ∙ d .gives-it)) (λ l. absurd (i .4 (d .cause) (omega arith) l (d .applies))) g)
+        (cmp (rank (i .0)) (rank (d .cause)))
     due-given (accepted y) r i d = absurd (i (d .cause) (omega arith) (d .applies))
 
-    free : (o : Outcome A) → Right 0 o → refusal o ≡ 0 → (c : Cause) → Applies f a vs c → ⊥
+    free : (o : Outcome A) → Right 0 o → refusal o .number ≡ 0 → (c : Cause) → Applies f a vs c → ⊥
     free (refused q) i e c x = omega (arith, number-above q)
     free (accepted y) i e c x = i c (omega arith) x
 
-    free-taken : (o : Outcome A) → Right 0 o → ((c : Cause) → Applies f a vs c → ⊥) → refusal o ≡ 0
+    free-taken : (o : Outcome A) → Right 0 o → ((c : Cause) → Applies f a vs c → ⊥) → refusal o .number ≡ 0
     free-taken (refused q) i n = absurd (n (i .0) (i .3))
     free-taken (accepted y) i n = refl
 
     -- WHAT IS ASKED AND THE STEPS' OWN OUTCOME o COME TO r JUST WHERE r IS DUE,
-    pub guarded-exactly : (o : Outcome A) → Ends vs o → (r : Refusal) → (refusal (guarded f a o) ≡ number r) ↔ Due f a vs r
+    pub guarded-exactly : (o : Outcome A) → Ends vs o → (r : Refusal) → (refusal (guarded f a o) ≡ verdict r) ↔ Due f a vs r
     guarded-exactly o i r = (due (guarded f a o) r (right o i), due-given (guarded f a o) r (right o i))
 
     -- and are accepted just where no row applies
-    pub guarded-taken : (o : Outcome A) → Ends vs o → (refusal (guarded f a o) ≡ 0) ↔ ((c : Cause) → Applies f a vs c → ⊥)
+    pub guarded-taken : (o : Outcome A) → Ends vs o → (refusal (guarded f a o) .number ≡ 0) ↔ ((c : Cause) → Applies f a vs c → ⊥)
     guarded-taken o i = (free (guarded f a o) (right o i), free-taken (guarded f a o) (right o i))
 
 -- ---- EXACTLY WHEN: every call, New, and point k of a list
 
-pub stepped-number : (s : Filter) (o : Outcome Done) → stepped s o .reply .refusal ≡ refusal o
-stepped-number s (refused r) = refl
-stepped-number s (accepted d) = refl
+pub stepped-told : (s : Filter) (o : Outcome Done) → stepped s o .reply .refusal ≡ refusal o
+stepped-told s (refused r) = refl
+stepped-told s (accepted d) = refl
 
 module _ (f : Format) where
   module _ (s : Filter) (c : Call) where
-    step-number : step f s c .reply .refusal ≡ refusal (outcome f (seen s) c)
+    step-told : step f s c .reply .refusal ≡ refusal (outcome f (seen s) c)
     unfolding step
-    step-number = stepped-number s (outcome f (seen s) c)
+    step-told = stepped-told s (outcome f (seen s) c)
 
-    pub exactly : (r : Refusal) → (step f s c .reply .refusal ≡ number r) ↔ Due f (asks (seen s) c) (planned (plan f (seen s) c)) r
-    exactly r = rw step-number (guarded-exactly f (asks (seen s) c) (planned (plan f (seen s) c)) (run (plan f (seen s) c)) (plan-ends (plan f (seen s) c)) r)
+    pub exactly : (r : Refusal) → (step f s c .reply .refusal ≡ verdict r) ↔ Due f (asks (seen s) c) (planned (plan f (seen s) c)) r
+    exactly r = rw step-told (guarded-exactly f (asks (seen s) c) (planned (plan f (seen s) c)) (run (plan f (seen s) c)) (plan-ends (plan f (seen s) c)) r)
 
-    pub taken-exactly : (step f s c .reply .refusal ≡ 0) ↔ ((d : Cause) → Applies f (asks (seen s) c) (planned (plan f (seen s) c)) d → ⊥)
-    taken-exactly = rw step-number (guarded-taken f (asks (seen s) c) (planned (plan f (seen s) c)) (run (plan f (seen s) c)) (plan-ends (plan f (seen s) c)))
+    pub taken-exactly : (step f s c .reply .refusal .number ≡ 0) ↔ ((d : Cause) → Applies f (asks (seen s) c) (planned (plan f (seen s) c)) d → ⊥)
+    taken-exactly = rw step-told (guarded-taken f (asks (seen s) c) (planned (plan f (seen s) c)) (run (plan f (seen s) c)) (plan-ends (plan f (seen s) c)))
 
   module _ (n : ℕ) (x p q : List Float) (params : Params) where
-    pub new-exactly : (r : Refusal) → (newAnswer f n x p q params .refusal ≡ number r) ↔ Due f (newAsks n (from x p ∷ []) q params) [] r
+    pub new-exactly : (r : Refusal) → (newAnswer f n x p q params .refusal ≡ verdict r) ↔ Due f (newAsks n (from x p ∷ []) q params) [] r
     unfolding newOf
     new-exactly r = guarded-exactly f (newAsks n (from x p ∷ []) q params) [] (accepted _) no-first r
 
-    pub new-taken : (newAnswer f n x p q params .refusal ≡ 0) ↔ ((c : Cause) → Applies f (newAsks n (from x p ∷ []) q params) [] c → ⊥)
+    pub new-taken : (newAnswer f n x p q params .refusal .number ≡ 0) ↔ ((c : Cause) → Applies f (newAsks n (from x p ∷ []) q params) [] c → ⊥)
     unfolding newOf
     new-taken = guarded-taken f (newAsks n (from x p ∷ []) q params) [] (accepted _) no-first
 
   -- and its parts
-  pub new-track-exactly : (n : ℕ) (s : Start) (r : Refusal) → (newTrack f n s .refusal ≡ number r) ↔ Due f (startAsks n s) [] r
+  pub new-track-exactly : (n : ℕ) (s : Start) (r : Refusal) → (newTrack f n s .refusal ≡ verdict r) ↔ Due f (startAsks n s) [] r
   unfolding newTrackOf
   new-track-exactly n s r = guarded-exactly f (startAsks n s) [] (accepted _) no-first r
 
-  pub new-sheet-exactly : (n : ℕ) (q : List Float) (params : Params) (r : Refusal) → (newSheet f n q params .refusal ≡ number r) ↔ Due f (newAsks n [] q params) [] r
+  pub new-sheet-exactly : (n : ℕ) (q : List Float) (params : Params) (r : Refusal) → (newSheet f n q params .refusal ≡ verdict r) ↔ Due f (newAsks n [] q params) [] r
   unfolding newSheetOf
   new-sheet-exactly n q params r = guarded-exactly f (newAsks n [] q params) [] (accepted _) no-first r
 
   module _ (l : List Float) (n k : ℕ) where
-    pub point-exactly : (r : Refusal) → (pointRefusal f l n k ≡ number r) ↔ Due f (pointAsks f l n k) [] r
+    pub point-exactly : (r : Refusal) → (pointRefusal f l n k ≡ verdict r) ↔ Due f (pointAsks f l n k) [] r
     unfolding pointRefusal
     point-exactly r = guarded-exactly f (pointAsks f l n k) [] (accepted _) no-first r
 
-    pub point-taken : (pointRefusal f l n k ≡ 0) ↔ ((c : Cause) → Applies f (pointAsks f l n k) [] c → ⊥)
+    pub point-taken : (pointRefusal f l n k .number ≡ 0) ↔ ((c : Cause) → Applies f (pointAsks f l n k) [] c → ⊥)
     unfolding pointRefusal
     point-taken = guarded-taken f (pointAsks f l n k) [] (accepted _) no-first
 
--- ---- the wrap that callers may use, and the check of a kind: 5, then 6
+-- ---- the wrap that callers may use, and the check of a kind: 56, then 6
 
 module _ {A : Type 0} (x : A) {Bad Unfit : Type 0} where
   -- an outcome of two tests
   two-tests : (t u : Bool) → Means t Bad → Means u Unfit → (r : Refusal)
-      → (refusal (unless t NUMBER (unless u PARAM (accepted x))) ≡ number r) ↔ (((r ≡ NUMBER) × Bad) ⊎ ((r ≡ PARAM) × (Bad → ⊥) × Unfit))
+      → (refusal (unless t badLone (unless u PARAM (accepted x))) ≡ verdict r) ↔ (((r ≡ badLone) × Bad) ⊎ ((r ≡ PARAM) × (Bad → ⊥) × Unfit))
   two-tests true true m n r =
-      (λ e. absurd (omega (arith, number-above r)), ⊎-elim (λ w. absurd (m .passes refl (w .1))) (λ w. absurd (n .passes refl (w .2))))
+      (λ e. absurd (omega (arith, number-above r, number-of e)), ⊎-elim (λ w. absurd (m .passes refl (w .1))) (λ w. absurd (n .passes refl (w .2))))
   two-tests true false m n r =
-      (λ e. inr (number-same (sym e), λ b. m .passes refl b, n .fails refl), ⊎-elim (λ w. absurd (m .passes refl (w .1))) (λ w. ap number (sym (w .0))))
+      (λ e. inr (verdict-same (sym e), λ b. m .passes refl b, n .fails refl), ⊎-elim (λ w. absurd (m .passes refl (w .1))) (λ w. ap verdict (sym (w .0))))
   two-tests false u m n r =
-      (λ e. inl (number-same (sym e), m .fails refl), ⊎-elim (λ w. ap number (sym (w .0))) (λ w. absurd (w .1 (m .fails refl))))
+      (λ e. inl (verdict-same (sym e), m .fails refl), ⊎-elim (λ w. ap verdict (sym (w .0))) (λ w. absurd (w .1 (m .fails refl))))
 
-  two-taken : (t u : Bool) → Means t Bad → Means u Unfit → (refusal (unless t NUMBER (unless u PARAM (accepted x))) ≡ 0) ↔ ((Bad → ⊥) × (Unfit → ⊥))
+  two-taken : (t u : Bool) → Means t Bad → Means u Unfit → (refusal (unless t badLone (unless u PARAM (accepted x))) .number ≡ 0) ↔ ((Bad → ⊥) × (Unfit → ⊥))
   two-taken true true m n = (λ e. (λ b. m .passes refl b, λ b. n .passes refl b), λ w. refl)
   two-taken true false m n = (λ e. absurd (omega arith), λ w. absurd (w .1 (n .fails refl)))
   two-taken false u m n = (λ e. absurd (omega arith), λ w. absurd (w .0 (m .fails refl)))
@@ -280,85 +287,85 @@ module _ (f : Format) where
         last : Some NotFinite (h ∷ []) → NotFinite h
         last s = ⊎-elim (λ b. b) (λ w. absurd (none w)) (parted s)
 
-    -- the wrap is refused by 5 just where d or h isn't finite, by 6 just where both are and h isn't above 0 or 2h isn't finite, and by nothing else
+    -- the wrap is refused by 56 at 0 just where d or h isn't finite, by 6 just where both are and h isn't above 0 or 2h isn't finite, and by nothing else
     pub wrap-exactly : (r : Refusal)
-        → (refusal (wrapOf f d h) ≡ number r) ↔ (((r ≡ NUMBER) × (NotFinite d ⊎ NotFinite h)) ⊎ ((r ≡ PARAM) × (NotFinite d ⊎ NotFinite h → ⊥) × (NotAbove h ⊎ NotFinite (add f h h))))
+        → (refusal (wrapOf f d h) ≡ verdict r) ↔ (((r ≡ badLone) × (NotFinite d ⊎ NotFinite h)) ⊎ ((r ≡ PARAM) × (NotFinite d ⊎ NotFinite h → ⊥) × (NotAbove h ⊎ NotFinite (add f h h))))
     unfolding wrapOf
     wrap-exactly r = two-tests (wrapStep f d h) (allFinite (d ∷ h ∷ [])) (halfTurn f h) both-finite (half-turn f h) r
 
-    pub wrap-taken : (refusal (wrapOf f d h) ≡ 0) ↔ ((NotFinite d ⊎ NotFinite h → ⊥) × (NotAbove h ⊎ NotFinite (add f h h) → ⊥))
+    pub wrap-taken : (refusal (wrapOf f d h) .number ≡ 0) ↔ ((NotFinite d ⊎ NotFinite h → ⊥) × (NotAbove h ⊎ NotFinite (add f h h) → ⊥))
     unfolding wrapOf
     wrap-taken = two-taken (wrapStep f d h) (allFinite (d ∷ h ∷ [])) (halfTurn f h) both-finite (half-turn f h)
 
     -- what a refused wrap hands back
-    pub wrap-refused : wrapped (wrapOf f d h) .refusal ≢ 0 → wrapped (wrapOf f d h) .value ≡ plusZero
+    pub wrap-refused : wrapped (wrapOf f d h) .refusal .number ≢ 0 → wrapped (wrapOf f d h) .value ≡ plusZero
     wrap-refused = go (wrapOf f d h)
       where
-        go : (o : Outcome Float) → refusal o ≢ 0 → or plusZero o ≡ plusZero
+        go : (o : Outcome Float) → refusal o .number ≢ 0 → or plusZero o ≡ plusZero
         go (refused r) n = refl
         go (accepted w) n = absurd (n refl)
 
-  -- a root is refused by 5 just where x isn't finite or is below zero, and by nothing else
-  pub root-exactly : (x : Float) (r : Refusal) → (refusal (rootOutcome f x) ≡ number r) ↔ ((r ≡ NUMBER) × (NotFinite x ⊎ Below x))
+  -- a root is refused by 56 at 0 just where x isn't finite or is below zero, and by nothing else
+  pub root-exactly : (x : Float) (r : Refusal) → (refusal (rootOutcome f x) ≡ verdict r) ↔ ((r ≡ badLone) × (NotFinite x ⊎ Below x))
   root-exactly x r = go (rooted x) (rooted-means x)
     where
-      go : (t : Bool) → Means t (NotFinite x ⊎ Below x) → (refusal (unless t NUMBER (accepted (rootOf f x))) ≡ number r) ↔ ((r ≡ NUMBER) × (NotFinite x ⊎ Below x))
-      go true m = ((λ e. absurd (omega (arith, number-above r))), (λ k. absurd (m .passes refl (k .1))))
-      go false m = ((λ e. (number-same (sym e), m .fails refl)), (λ k. sym (ap number (k .0))))
+      go : (t : Bool) → Means t (NotFinite x ⊎ Below x) → (refusal (unless t badLone (accepted (rootOf f x))) ≡ verdict r) ↔ ((r ≡ badLone) × (NotFinite x ⊎ Below x))
+      go true m = ((λ e. absurd (omega (arith, number-above r, number-of e))), (λ k. absurd (m .passes refl (k .1))))
+      go false m = ((λ e. (verdict-same (sym e), m .fails refl)), (λ k. sym (ap verdict (k .0))))
 
   module _ (k : Kind) where
-    -- a kind is refused by 5 just where its half-turn isn't finite, by 6 just where it is and doesn't pass, and by nothing else
+    -- a kind is refused by 56 at 0 just where its half-turn isn't finite, by 6 just where it is and doesn't pass, and by nothing else
     pub kind-exactly : (r : Refusal)
-        → (refusal (kindOf f k) ≡ number r) ↔ (((r ≡ NUMBER) × Some NotFinite (numbersIn (k .residual))) ⊎ ((r ≡ PARAM) × (Some NotFinite (numbersIn (k .residual)) → ⊥) × UnfitTurn f (k .residual)))
-    kind-exactly r = two-tests k (allFinite (numbersIn (k .residual))) (passes f (k .residual)) (all-finite (numbersIn (k .residual))) (turn f (k .residual)) r
+        → (refusal (kindOf f k) ≡ verdict r) ↔ (((r ≡ badLone) × NotFinite (halfOf k)) ⊎ ((r ≡ PARAM) × (NotFinite (halfOf k) → ⊥) × UnfitTurn f (k .residual)))
+    kind-exactly r = two-tests k (finite (halfOf k)) (passes f (k .residual)) (itself (finite (halfOf k))) (turn f (k .residual)) r
 
-    pub kind-taken : (refusal (kindOf f k) ≡ 0) ↔ ((Some NotFinite (numbersIn (k .residual)) → ⊥) × (UnfitTurn f (k .residual) → ⊥))
-    kind-taken = two-taken k (allFinite (numbersIn (k .residual))) (passes f (k .residual)) (all-finite (numbersIn (k .residual))) (turn f (k .residual))
+    pub kind-taken : (refusal (kindOf f k) .number ≡ 0) ↔ ((NotFinite (halfOf k) → ⊥) × (UnfitTurn f (k .residual) → ⊥))
+    kind-taken = two-taken k (finite (halfOf k)) (passes f (k .residual)) (itself (finite (halfOf k))) (turn f (k .residual))
 
 -- ---- a result or one of the refusals; and what is refused changes nothing and hands out nothing
 
-pub one-of : {A : Type 0} (o : Outcome A) → (refusal o ≡ 0) ⊎ ((r : Refusal) × (refusal o ≡ number r))
+pub one-of : {A : Type 0} (o : Outcome A) → (refusal o ≡ taken) ⊎ ((r : Refusal) × (refusal o ≡ verdict r))
 one-of (refused r) = inr (r, refl)
 one-of (accepted a) = inl refl
 
-pub unchanged : (s : Filter) (o : Outcome Done) → stepped s o .reply .refusal ≢ 0 → (stepped s o .filter ≡ s) × (stepped s o .reply .given ≡ []) × (stepped s o .reply .stale ≡ true)
+pub unchanged : (s : Filter) (o : Outcome Done) → stepped s o .reply .refusal .number ≢ 0 → (stepped s o .filter ≡ s) × (stepped s o .reply .given ≡ []) × (stepped s o .reply .stale ≡ true)
 unchanged s (refused r) h = (refl, refl, refl)
 unchanged s (accepted d) h = absurd (h refl)
 
 module _ (f : Format) (s : Filter) (c : Call) where
-  pub ends-so : (step f s c .reply .refusal ≡ 0) ⊎ ((r : Refusal) × (step f s c .reply .refusal ≡ number r))
-  ends-so = rw (step-number f s c) (one-of (outcome f (seen s) c))
+  pub ends-so : (step f s c .reply .refusal ≡ taken) ⊎ ((r : Refusal) × (step f s c .reply .refusal ≡ verdict r))
+  ends-so = rw (step-told f s c) (one-of (outcome f (seen s) c))
 
-  pub refused-nothing : step f s c .reply .refusal ≢ 0 → (step f s c .filter ≡ s) × (step f s c .reply .given ≡ []) × (step f s c .reply .stale ≡ true)
+  pub refused-nothing : step f s c .reply .refusal .number ≢ 0 → (step f s c .filter ≡ s) × (step f s c .reply .given ≡ []) × (step f s c .reply .stale ≡ true)
   unfolding step
   refused-nothing h = unchanged s (outcome f (seen s) c) h
 
   -- `over .. b` is what stands in a lent buffer b afterwards
-  pub refused-unwritten : step f s c .reply .refusal ≢ 0 → (step f s c .filter ≡ s) × ((b : List Float) → over (step f s c .reply .given) b ≡ b)
+  pub refused-unwritten : step f s c .reply .refusal .number ≢ 0 → (step f s c .filter ≡ s) × ((b : List Float) → over (step f s c .reply .given) b ≡ b)
   refused-unwritten h = let n = refused-nothing h in (n .0, λ b. ap (λ (w : List Float). over w b) (n .1))
 
   -- a refused reading of values answers +0, and stale
-  pub refused-values : step f s c .reply .refusal ≢ 0 → (paramsRead (step f s c .reply) .params ≡ record { alpha = plusZero; beta = plusZero; kappa = plusZero }) × (staleRead (step f s c .reply) .stale ≡ true)
+  pub refused-values : step f s c .reply .refusal .number ≢ 0 → (paramsRead (step f s c .reply) .params ≡ record { alpha = plusZero; beta = plusZero; kappa = plusZero }) × (staleRead (step f s c .reply) .stale ≡ true)
   refused-values h = let n = refused-nothing h in (ap paramsOf (n .1), n .2)
 
 -- ---- what is refused is the empty one
 
-pub or-refused : {A : Type 0} (e : A) (o : Outcome A) → refusal o ≢ 0 → or e o ≡ e
+pub or-refused : {A : Type 0} (e : A) (o : Outcome A) → refusal o .number ≢ 0 → or e o ≡ e
 or-refused e (refused r) h = refl
 or-refused e (accepted a) h = absurd (h refl)
 
 -- a refused New gives the empty filter, and a refused part of one that of the empty filter
 module _ (f : Format) (n : ℕ) where
-  pub new-refused : (x p q : List Float) (params : Params) → newAnswer f n x p q params .refusal ≢ 0 → newAnswer f n x p q params .filter ≡ empty
+  pub new-refused : (x p q : List Float) (params : Params) → newAnswer f n x p q params .refusal .number ≢ 0 → newAnswer f n x p q params .filter ≡ empty
   new-refused x p q params = or-refused empty (newOf f n x p q params)
 
-  pub new-track-refused : (s : Start) → newTrack f n s .refusal ≢ 0 → newTrack f n s .track ≡ emptyTrack
+  pub new-track-refused : (s : Start) → newTrack f n s .refusal .number ≢ 0 → newTrack f n s .track ≡ emptyTrack
   new-track-refused s = or-refused emptyTrack (newTrackOf f n s)
 
-  pub new-sheet-refused : (q : List Float) (params : Params) → newSheet f n q params .refusal ≢ 0 → newSheet f n q params .sheet ≡ emptySheet
+  pub new-sheet-refused : (q : List Float) (params : Params) → newSheet f n q params .refusal .number ≢ 0 → newSheet f n q params .sheet ≡ emptySheet
   new-sheet-refused q params = or-refused emptySheet (newSheetOf f n q params)
 
 -- a refused point is an empty part
-pub point-refused : (f : Format) (l : List Float) (n k : ℕ) → pointRefusal f l n k ≢ 0 → pointOf f l n k ≡ []
+pub point-refused : (f : Format) (l : List Float) (n k : ℕ) → pointRefusal f l n k .number ≢ 0 → pointOf f l n k ≡ []
 unfolding pointRefusal pointOf
 point-refused f l n k = or-refused [] (pointAt f l n k)

@@ -8,6 +8,7 @@ use lib.ListN.{take}
 use lib.Ieee.{Float, binary64, ofInt, toBits, add, sub, mul, rem, div, neg, lt, le, size, odd}
 use Rattle.floats.specs.Refusal.{Refusal}
 use Rattle.floats.specs.Numbers.{allFinite, aboveZero, zeros}
+use Rattle.floats.specs.Search.{searched, searchedFrom}
 use Rattle.floats.specs.Fronts.{front}
 use Rattle.root.specs.Definition.{rootOf, rooted, rootUnits, nearRoot, floorRoot}
 use Rattle.angles.specs.Wrap.{halfTurn, wrapStep, brought}
@@ -15,7 +16,7 @@ use Rattle.matrix.specs.Folds.{totalOf, placesOf, builtOf, rowOf, rowsOf}
 use Rattle.matrix.specs.Results.{worked, run}
 use Rattle.matrix.specs.Factor.{rowsFrom, columnOf, columnsFrom}
 use Rattle.matrix.specs.Inverse.{unitAt}
-use Rattle.floats.proofs.Refusals.{number-above}
+use Rattle.floats.proofs.Refusals.{number-above, number-of}
 use Rattle.sigma.specs.Weights.{lambdaOf, scaleOf, w0mOf, w0cOf, wiOf, weightsPass}
 use Rattle.sigma.specs.Draw.{pointAt}
 use Rattle.filter.specs.declared.Filter.{Filter}
@@ -72,7 +73,7 @@ pub record Computed : Type 0 where
   pub in-use : ranTo binary64 at-first (predicted (int 2) (int 4) (int 0)) .track .stale ≡ false
   pub still-open : isCorrecting (ranTo binary64 at-first (predicted (int 2) (int 4) (int 0) ++ (setting (open-correction three) ∷ [])) .track .stage) ≡ true
   -- a reading of the stale mark is taken
-  pub read-taken : step binary64 at-first (reading read-stale) .reply .refusal ≡ 0
+  pub read-taken : step binary64 at-first (reading read-stale) .reply .refusal .number ≡ 0
   -- the table fails for constant numbers at C9, for a filter handed back untouched at C9, and for a redraw at the first correction only at C11 and again at the next draw
   pub constant-fails : take 2 (failing (tableBy constant)) ≡ "C9 open" ∷ "C9 close" ∷ []
   pub untouched-fails : take 1 (failing (tableBy untouched)) ≡ "C9 close" ∷ []
@@ -84,7 +85,7 @@ pub record Computed : Type 0 where
   pub will-drew : drew (toldBy firstOnly at-will (corrected (int 3))) ≡ false
 
 pub computed : Computed
-unfolding halfTurn wrapStep brought _is_ _are_ ofInt toBits add sub mul rem div neg lt le size odd allFinite aboveZero zeros front rootOf rooted rootUnits nearRoot floorRoot totalOf placesOf builtOf rowOf rowsOf worked run rowsFrom columnOf columnsFrom unitAt lambdaOf scaleOf w0mOf w0cOf wiOf weightsPass pointAt inRange guarded step newOf tells told ranTo toldBy
+unfolding halfTurn wrapStep brought _is_ _are_ ofInt toBits add sub mul rem div neg lt le size odd allFinite aboveZero zeros front rootOf rooted rootUnits nearRoot floorRoot totalOf placesOf builtOf rowOf rowsOf worked run rowsFrom columnOf columnsFrom unitAt lambdaOf scaleOf w0mOf w0cOf wiOf weightsPass pointAt inRange guarded searched searchedFrom step newOf tells told ranTo toldBy
 computed = record {
   first-left = refl;
   will-left = refl;
@@ -117,7 +118,7 @@ pub refusing-stopped : (r : Refusal) → ExactlyWhen (refusing r) → ⊥
 refusing-stopped r e =
     let c = reading read-stale in
     let z = exactly binary64 at-first c r .1 (e at-first c r .0 refl) in
-    omega (arith, number-above r, computed .read-taken)
+    omega (arith, number-above r, number-of z, computed .read-taken)
 
 -- One that redraws at the first correction only breaks demand 3: on two alike filters it hands out different points.
 pub first-only-stopped : NothingLeftOver firstOnly → ⊥
@@ -136,5 +137,5 @@ three-is-refused e = omega arith
 -- ---- calls struck out: an open with a setting that is refused and its abandon, and then an abandon that is refused; a reading stays
 pub struck :
     Struck binary64 at-first (setting (open-prediction three) ∷ setting (set-x three) ∷ abandon ∷ abandon ∷ reading read-stale ∷ []) (reading read-stale ∷ [])
-unfolding ofInt add sub mul rem div neg lt le size odd allFinite aboveZero zeros front rootOf rooted rootUnits nearRoot floorRoot totalOf placesOf rowOf rowsOf worked run rowsFrom columnOf columnsFrom lambdaOf scaleOf w0mOf w0cOf wiOf weightsPass pointAt inRange guarded step newOf ranTo
+unfolding ofInt add sub mul rem div neg lt le size odd allFinite aboveZero zeros front rootOf rooted rootUnits nearRoot floorRoot totalOf placesOf rowOf rowsOf worked run rowsFrom columnOf columnsFrom lambdaOf scaleOf w0mOf w0cOf wiOf weightsPass pointAt inRange guarded searched searchedFrom step newOf ranTo
 struck = opening-struck (setting (open-prediction three)) (setting (set-x three) ∷ []) refl (refl, refl) (refused-struck three-is-refused (call-kept none-left))

@@ -15,7 +15,7 @@ use Rattle.floats.specs.Refusal.{accepted}
 use Rattle.floats.specs.Numbers.{zeros, allFinite, aboveZero}
 use Rattle.floats.specs.Fronts.{front}
 use Rattle.floats.proofs.Finite.{all-zeros}
-use Rattle.angles.specs.Kinds.{plain}
+use Rattle.angles.specs.Kinds.{plain, halfOf}
 use Rattle.matrix.specs.Results.{mapped}
 use Rattle.sigma.specs.declared.Params.{Params}
 use Rattle.sigma.specs.Weights.{scaleOf, w0mOf, w0cOf, wiOf, weightAt, weightsOf, weightsPass}
@@ -29,7 +29,7 @@ use Rattle.filter.specs.declared.Filter.{Filter}
 use Rattle.filter.specs.declared.Weighted.{Weighted}
 use Rattle.filter.specs.Asked.{fit, by-params, by-kind, inRange, every}
 use Rattle.filter.specs.Filters.{isShut, seen, Writing, q-set, params-set, kinds-set, Setting, x-set, p-set, opened-prediction, opened-correction, Closing, Change, writes, sets, closes, abandons, reads, changed}
-use Rattle.filter.specs.Calls.{set-x, set-p, set-q, set-params, set-kind, open-prediction, open-correction, close-prediction, close-correction, close-correction-flat, read-x, read-p, read-q, read-points, read-params, read-stale, Call, writing, setting, closing, abandon, reading, inKinds, asKinds, asks, Done, opened, closed, draws, plan, weightedFrom, flatFrom}
+use Rattle.filter.specs.Calls.{set-x, set-p, set-q, set-params, set-kind, open-prediction, open-correction, close-prediction, close-correction, close-correction-flat, read-x, read-p, read-q, read-points, read-params, read-stale, Call, writing, setting, closing, abandon, reading, halves, valuesOf, asKinds, asks, Done, opened, closed, draws, plan, weightedFrom, flatFrom}
 use Rattle.filter.proofs.Closing.{predicting-open, correcting-open, predicting}
 use Rattle.demands.specs.Sound.{Filled, Laid, DrawnFrom, Sound}
 use Rattle.demands.proofs.Passed.{both, Passed, Ran, ran-finish, ran-either, ran-mapped}
@@ -41,8 +41,8 @@ use Rattle.demands.proofs.Arrays.{all-front, all-places, in-use-filled,
 module _ (f : Format) (s : Filter) where
   abbrev pub FineWriting : Writing → Type 0
   FineWriting (q-set v) = Filled (s .sheet .n * s .sheet .n) 64 v
-  FineWriting (params-set v) = (allFinite (v .alpha ∷ v .beta ∷ v .kappa ∷ []) ≡ true) × (weightsPass f (s .sheet .n) v ≡ true)
-  FineWriting (kinds-set v) = (allFinite (inKinds v) ≡ true) × (every (fit f) (asKinds v) ≡ true) × (length v ≡ 8) × ((i : ℕ) → s .sheet .n ≤ i → getD v i plain ≡ plain)
+  FineWriting (params-set v) = (allFinite (valuesOf v) ≡ true) × (weightsPass f (s .sheet .n) v ≡ true)
+  FineWriting (kinds-set v) = (allFinite (halves v) ≡ true) × (every (fit f) (asKinds v) ≡ true) × (length v ≡ 8) × ((i : ℕ) → s .sheet .n ≤ i → getD v i plain ≡ plain)
 
   abbrev pub FineSetting : Setting → Type 0
   FineSetting (x-set v) = Filled (s .sheet .n) 8 v
@@ -131,15 +131,15 @@ module _ (f : Format) (s : Filter) (o : Sound f s) where
   pub fine : (c : Call) → Passed f (asks (seen s) c) → Ran (plan f (seen s) c) (λ (d : Done). FineDone f s d)
   unfolding allFinite
   fine (setting (set-x v)) h =
-      ran-finish _ _ (record { change = (filled-front (s .sheet .n) 8 v (leb-true _ _ (h .lent .0)) (in-range 1 8 (s .sheet .n) (h .sizes .0) .1) (h .inputs), h .fits); given = refl })
+      ran-finish _ _ (record { change = (filled-front (s .sheet .n) 8 v (leb-true _ _ (h .lent .0)) (in-range 1 8 (s .sheet .n) (h .sizes .0) .1) (h .inputs .0), h .fits); given = refl })
   fine (setting (set-p v)) h =
-      ran-finish _ _ (record { change = (filled-front (s .sheet .n * s .sheet .n) 64 v (leb-true _ _ (h .lent .0)) (square-room (s .sheet .n) (in-range 1 8 (s .sheet .n) (h .sizes .0) .1)) (h .inputs), h .fits); given = refl })
+      ran-finish _ _ (record { change = (filled-front (s .sheet .n * s .sheet .n) 64 v (leb-true _ _ (h .lent .0)) (square-room (s .sheet .n) (in-range 1 8 (s .sheet .n) (h .sizes .0) .1)) (h .inputs .0), h .fits); given = refl })
   fine (writing (set-q v)) h =
-      ran-finish _ _ (record { change = (filled-front (s .sheet .n * s .sheet .n) 64 v (leb-true _ _ (h .lent .0)) (square-room (s .sheet .n) (in-range 1 8 (s .sheet .n) (h .sizes .0) .1)) (h .inputs), h .fits); given = refl })
-  fine (writing (set-params p)) h = ran-finish _ _ (record { change = ((h .inputs, both {a = fit f (by-params (s .sheet .n) p)} (h .params) .0), h .fits); given = refl })
+      ran-finish _ _ (record { change = (filled-front (s .sheet .n * s .sheet .n) 64 v (leb-true _ _ (h .lent .0)) (square-room (s .sheet .n) (in-range 1 8 (s .sheet .n) (h .sizes .0) .1)) (h .inputs .0), h .fits); given = refl })
+  fine (writing (set-params p)) h = ran-finish _ _ (record { change = ((h .inputs .0, both {a = fit f (by-params (s .sheet .n) p)} (h .params) .0), h .fits); given = refl })
   fine (writing (set-kind i k)) h =
       ran-finish _ _ (record {
-        change = ((kinds-finite k (s .sheet .kinds) i (o .kinds) (h .inputs), kinds-fit k f (s .sheet .kinds) i (o .turns) (both {a = fit f (by-kind k)} (h .params) .0), length-set (s .sheet .kinds) i k ∙ o .eight, past), h .fits);
+        change = ((kinds-finite k (s .sheet .kinds) i (o .kinds) (both {a = finite (halfOf k)} (h .inputs .0) .0), kinds-fit k f (s .sheet .kinds) i (o .turns) (both {a = fit f (by-kind k)} (h .params) .0), length-set (s .sheet .kinds) i k ∙ o .eight, past), h .fits);
         given = refl;
       })
     where
@@ -155,7 +155,7 @@ module _ (f : Format) (s : Filter) (o : Sound f s) where
       let points = front (pointNumbers (s .sheet .n)) v (zeros 136) in
       ran-mapped _ (closed (seen s .track .«drawn_weights») points false) (predicting f (seen s) v) (λ m e.
       let a = moment-filled (predict-accepted f (s .sheet .n) points (w0mOf f (s .sheet .n) (s .sheet .params)) (seen s .track .«drawn_weights») (s .sheet .kinds) (s .sheet .q) m (o .small) e) in
-      let b = filled-front (pointNumbers (s .sheet .n)) 136 v (leb-true _ _ (h .lent .0)) (points-room (s .sheet .n) (in-range 1 8 (s .sheet .n) (h .sizes .0) .1)) (h .inputs) in
+      let b = filled-front (pointNumbers (s .sheet .n)) 136 v (leb-true _ _ (h .lent .0)) (points-room (s .sheet .n) (in-range 1 8 (s .sheet .n) (h .sizes .0) .1)) (h .inputs .0) in
       record { change = (a .0, a .1, open-weighted (predicting-open (s .track .stage) (h .fits)) points b); given = refl })
   fine (closing (close-correction m z r kinds observed)) h = corrected-fine (correcting-open (s .track .stage) (h .fits)) (weightedFrom f (seen s) m z r kinds observed) refl
   fine (closing (close-correction-flat m z r observed)) h = corrected-fine (correcting-open (s .track .stage) (h .fits)) (flatFrom f (seen s) m z r observed) refl

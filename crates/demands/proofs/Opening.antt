@@ -1,15 +1,17 @@
--- Opening never answers 5 or 6: stored numbers are finite, and stored parameters have passed 6, so N has a root. Assumes nothing.
-use Prim.Native.Nat.{ℕ, _≤_}
+-- Opening never answers one of 51 to 56, nor 6: stored numbers are finite, and stored parameters have passed 6, so N has a root. Assumes nothing.
+use Prim.Native.Nat.{ℕ, _<_, _≤_}
 use mathlib.Core.Path.{_≡_, refl}
 use mathlib.Core.Bool.{Bool, true, false, _&&_, cond}
 use mathlib.Core.List.{List}
-use mathlib.Core.Logic.{_⊎_, inl, inr, ⊎-elim}
+use mathlib.Core.Logic.{_≢_, _⊎_, inl, inr, ⊎-elim}
 use native.Mathlib.Omega.{arith}
 use lib.Dec.{leb}
 use lib.ListN.{length, take}
 use lib.Ieee.{Float, Format}
 use Rattle.floats.specs.Refusal.{Refusal, SIZE, SHORT, STAGE, PIVOT, RANGE, Outcome, refused, accepted, unless, onward}
 use Rattle.floats.specs.Numbers.{allFinite, aboveZero}
+use Rattle.floats.specs.Search.{searched}
+use Rattle.floats.proofs.Refusals.{slice-above}
 use Rattle.root.specs.Definition.{rooted}
 use Rattle.root.proofs.Answers.{above-rooted}
 use Rattle.matrix.specs.Results.{worked, listed, Plan, run}
@@ -33,7 +35,7 @@ use Rattle.demands.proofs.Sound.{sound}
 
 -- refused by 7 or 9, or accepted
 abbrev Late : {A : Type 0} → Outcome A → Type 0
-Late (refused r) = (r ≡ PIVOT) ⊎ (r ≡ RANGE)
+Late (refused r) = ((j : ℕ) × (r ≡ PIVOT j)) ⊎ (r ≡ RANGE)
 Late (accepted a) = Unit {0}
 
 module _ {A B : Type 0} where
@@ -41,23 +43,27 @@ module _ {A B : Type 0} where
   onward-late (refused r) k h g = h
   onward-late (accepted a) k h g = g a
 
-late-number : (s : Filter) (o : Outcome Done) → Late o → Neither (stepped s o .reply .refusal)
-late-number s (refused r) h = ⊎-elim (λ e. rw e (λ z. absurd (omega arith), λ z. absurd (omega arith))) (λ e. rw e (λ z. absurd (omega arith), λ z. absurd (omega arith))) h
-late-number s (accepted d) h = (λ z. absurd (omega arith), λ z. absurd (omega arith))
+-- a number below 51 that isn't 6
+below : {k : ℕ} → k < 51 → k ≢ 6 → Neither k
+below h n = (λ s z. omega (arith, slice-above s), n)
+
+late-number : (s : Filter) (o : Outcome Done) → Late o → Neither (stepped s o .reply .refusal .number)
+late-number s (refused r) h = ⊎-elim (λ e. rw (e .1) (below (omega arith) (λ z. omega arith))) (λ e. rw e (below (omega arith) (λ z. omega arith))) h
+late-number s (accepted d) h = below (omega arith) (λ z. omega arith)
 
 -- 3, 1 or 2 in front
-early : (s : Filter) (t u v : Bool) (o : Outcome Done) → (u ≡ true → Late o) → Neither (stepped s (unless t STAGE (unless u SIZE (unless v SHORT o))) .reply .refusal)
-early s false u v o h = (λ z. absurd (omega arith), λ z. absurd (omega arith))
-early s true false v o h = (λ z. absurd (omega arith), λ z. absurd (omega arith))
-early s true true false o h = (λ z. absurd (omega arith), λ z. absurd (omega arith))
+early : (s : Filter) (t u v : Bool) (o : Outcome Done) → (u ≡ true → Late o) → Neither (stepped s (unless t STAGE (unless u SIZE (unless v SHORT o))) .reply .refusal .number)
+early s false u v o h = below (omega arith) (λ z. omega arith)
+early s true false v o h = below (omega arith) (λ z. omega arith)
+early s true true false o h = below (omega arith) (λ z. omega arith)
 early s true true true o h = late-number s o (h refl)
 
 module _ (f : Format) where
   factor-late : (a : List Float) (n : ℕ) → n ≤ 8 → Late (worked (factorOf f PIVOT a n))
   factor-late a n h = go (worked (factorOf f PIVOT a n)) refl
     where
-      why : (r : Refusal) → Stopped f PIVOT a n r → (r ≡ PIVOT) ⊎ (r ≡ RANGE)
-      why r (at-pivot j l g p t) = inl refl
+      why : (r : Refusal) → Stopped f PIVOT a n r → ((j : ℕ) × (r ≡ PIVOT j)) ⊎ (r ≡ RANGE)
+      why r (at-pivot j l g p t) = inl (j, refl)
       why r (at-entry i j l g k p t) = inr refl
 
       go : (o : Outcome (List Float)) → worked (factorOf f PIVOT a n) ≡ o → Late o
@@ -87,21 +93,21 @@ module _ (f : Format) where
     sized : inRange 1 8 (s .sheet .n) && true ≡ true → 1 ≤ s .sheet .n
     sized h = in-range 1 8 (s .sheet .n) (both {a = inRange 1 8 (s .sheet .n)} h .0) .0
 
-    sound-prediction : (b : List Float) → Neither (step f s (setting (open-prediction b)) .reply .refusal)
-    unfolding step allFinite
+    sound-prediction : (b : List Float) → Neither (step f s (setting (open-prediction b)) .reply .refusal .number)
+    unfolding step searched
     sound-prediction b = early s (isShut (s .track .stage)) (inRange 1 8 (s .sheet .n) && true) (leb (pointNumbers (s .sheet .n)) (length b) && true) (run (draws f opened-prediction (seen s))) (λ h. draws-late s o (sized h) opened-prediction)
 
-    sound-correction : (b : List Float) → Neither (step f s (setting (open-correction b)) .reply .refusal)
-    unfolding step allFinite
+    sound-correction : (b : List Float) → Neither (step f s (setting (open-correction b)) .reply .refusal .number)
+    unfolding step searched
     sound-correction b = early s (isShut (s .track .stage)) (inRange 1 8 (s .sheet .n) && true) (leb (pointNumbers (s .sheet .n)) (length b) && true) (run (plan f (seen s) (setting (open-correction b)))) (λ h. either (s .track .stale) _ _ (draws-late s o (sized h) opened-correction) tt)
       where
         either : (t : Bool) (p q : Plan Done) → Late (run p) → Late (run q) → Late (run (cond t p q))
         either true p q i j = i
         either false p q i j = j
 
-  -- OPENING NEVER ANSWERS 5 OR 6
-  pub opening-prediction : {s : Filter} → Yielded f s → (b : List Float) → Neither (step f s (setting (open-prediction b)) .reply .refusal)
+  -- OPENING NEVER ANSWERS ONE OF 51 TO 56, NOR 6
+  pub opening-prediction : {s : Filter} → Yielded f s → (b : List Float) → Neither (step f s (setting (open-prediction b)) .reply .refusal .number)
   opening-prediction {s} y b = sound-prediction s (sound f y) b
 
-  pub opening-correction : {s : Filter} → Yielded f s → (b : List Float) → Neither (step f s (setting (open-correction b)) .reply .refusal)
+  pub opening-correction : {s : Filter} → Yielded f s → (b : List Float) → Neither (step f s (setting (open-correction b)) .reply .refusal .number)
   opening-correction {s} y b = sound-correction s (sound f y) b

@@ -8,6 +8,7 @@ use mathlib.Core.Logic.{inr}
 use lib.ListN.{take, drop}
 use lib.Ieee.{Float, binary64, ofInt, toBits, add, sub, mul, rem, div, neg, lt, le, size, odd}
 use Rattle.floats.specs.Numbers.{allFinite, aboveZero, zeros}
+use Rattle.floats.specs.Search.{searched, searchedFrom}
 use Rattle.floats.specs.Fronts.{front}
 use Rattle.root.specs.Definition.{rootOf, rooted, rootUnits, nearRoot, floorRoot}
 use Rattle.angles.specs.Wrap.{halfTurn, wrapStep, brought}
@@ -57,7 +58,7 @@ at-will-yielded = pair-at-will at-will (pair-made 1 (int 2 ∷ []) (int 4 ∷ []
 -- ---- what is computed
 
 abbrev numbers : List SideTold → List ℕ
-numbers = map (λ t. t .told .reply .refusal)
+numbers = map (λ t. t .told .reply .refusal .number)
 
 abbrev lastGiven : List SideTold → List Float
 lastGiven [] = []
@@ -109,12 +110,12 @@ pub record Computed : Type 0 where
   -- what the first hears of a run, and what it notices: Q set by the second, then read; its own change of Q turned away while the second has a call open. Of the second's x it hears nothing
   pub heard : hears binary64 First both mixed ≡ wrote (set-q (int 7 ∷ [])) ∷ own readsQ ∷ turned-away ∷ []
   pub noticing : map (λ k. k .turned) (notices binary64 First false both mixed) ≡ false ∷ true ∷ []
-  pub told-of-it : map (λ t. t .reply .refusal) (ofSide First (pairTold binary64 both mixed)) ≡ 0 ∷ 3 ∷ []
+  pub told-of-it : map (λ t. t .reply .refusal .number) (ofSide First (pairTold binary64 both mixed)) ≡ 0 ∷ 3 ∷ []
   -- a mark set by the second meets the first at its next call
   pub marked-once : map (λ k. k .mark) (notices binary64 First false both (by Second (writing (set-params c1)) ∷ by First readsQ ∷ by First readsQ ∷ [])) ≡ true ∷ false ∷ []
 
 pub computed : Computed
-unfolding halfTurn wrapStep brought _is_ _are_ ofInt toBits add sub mul rem div neg lt le size odd allFinite aboveZero zeros front rootOf rooted rootUnits nearRoot floorRoot totalOf placesOf builtOf rowOf rowsOf worked run rowsFrom columnOf columnsFrom lambdaOf scaleOf w0mOf w0cOf wiOf weightsPass pointAt inRange guarded step newPairOf tells pairStep pairTells pairTold ofSide hears notices
+unfolding halfTurn wrapStep brought _is_ _are_ ofInt toBits add sub mul rem div neg lt le size odd allFinite aboveZero zeros front rootOf rooted rootUnits nearRoot floorRoot totalOf placesOf builtOf rowOf rowsOf worked run rowsFrom columnOf columnsFrom lambdaOf scaleOf w0mOf w0cOf wiOf weightsPass pointAt inRange guarded searched searchedFrom step newPairOf tells pairStep pairTells pairTold ofSide hears notices
 computed = record { fresh-left = refl; fresh-left-too = refl; will-left = refl; will-left-too = refl; first-opens = refl; second-opens = refl; contents = refl; params-mark = refl; q-marks-not = refl; no-refusal = refl; refusal = refl; with-open = refl; heard = refl; noticing = refl; told-of-it = refl; marked-once = refl }
 
 -- ---- calls struck out
@@ -138,7 +139,7 @@ none-struck First = refl
 none-struck Second = refl
 
 pub struck : PairStruck binary64 nobody both long short
-unfolding ofInt add sub mul rem div neg lt le size odd allFinite aboveZero zeros front rootOf rooted rootUnits nearRoot floorRoot totalOf placesOf rowOf rowsOf worked run rowsFrom columnOf columnsFrom lambdaOf scaleOf w0mOf w0cOf wiOf weightsPass pointAt inRange guarded step newPairOf pairStep
+unfolding ofInt add sub mul rem div neg lt le size odd allFinite aboveZero zeros front rootOf rooted rootUnits nearRoot floorRoot totalOf placesOf rowOf rowsOf worked run rowsFrom columnOf columnsFrom lambdaOf scaleOf w0mOf w0cOf wiOf weightsPass pointAt inRange guarded searched searchedFrom step newPairOf pairStep
 struck = open-struck refl refl refl (own-struck refl refl (refused-struck three-is-refused (call-kept second-clear (abandon-struck refl (call-kept (λ v h. none-struck v) (none-left none-struck))))))
 
 -- what is left of the long run is told as it was told there, at the fourth call and at the last
@@ -148,5 +149,5 @@ left-told = refl
 
 -- the same by the law of an open call up to its abandon
 pub struck-so : PairStruck binary64 nobody both long short
-unfolding ofInt add sub mul rem div neg lt le size odd allFinite aboveZero zeros front rootOf rooted rootUnits nearRoot floorRoot totalOf placesOf rowOf rowsOf worked run rowsFrom columnOf columnsFrom lambdaOf scaleOf w0mOf w0cOf wiOf weightsPass pointAt inRange guarded step newPairOf pairStep pairRan
+unfolding ofInt add sub mul rem div neg lt le size odd allFinite aboveZero zeros front rootOf rooted rootUnits nearRoot floorRoot totalOf placesOf rowOf rowsOf worked run rowsFrom columnOf columnsFrom lambdaOf scaleOf w0mOf w0cOf wiOf weightsPass pointAt inRange guarded searched searchedFrom step newPairOf pairStep pairRan
 struck-so = opening-struck binary64 First (by First readsQ ∷ []) (by First readsQ ∷ []) both (open-prediction three) (by First readsQ ∷ by Second writesQ ∷ by Second readsX ∷ []) refl (refl, (refl, (refl, refl))) (call-kept (λ v h. refl) (none-left (λ v. refl)))

@@ -46,9 +46,9 @@ module _ (f : Format) where
     other-track : (c : Call) → solo (pairStep f p v c .pair) w ≡ solo p w → trackAt (pairStep f p v c .pair) w ≡ trackAt p w
     other-track c d = ap (λ (s : Filter). s .track) d
 
-    partner-marks : (c : Call) → trackAt (pairStep f p v c .pair) w ≡ remarked (marksBy c (pairStep f p v c .reply .refusal)) (trackAt p w)
+    partner-marks : (c : Call) → trackAt (pairStep f p v c .pair) w ≡ remarked (marksBy c (pairStep f p v c .reply .refusal .number)) (trackAt p w)
     partner-marks (writing c) =
-        by-number c (pairStep f p v (writing c) .reply .refusal) (trackAt p w) (trackAt (pairStep f p v (writing c) .pair) w)
+        by-number c (pairStep f p v (writing c) .reply .refusal .number) (trackAt p w) (trackAt (pairStep f p v (writing c) .pair) w)
         (λ z. ap (λ (q : Pair). trackAt q w) (sheet-written f p v c z) ∙ at w) (λ n. ap (λ (q : Pair). trackAt q w) (refused-whole f p v (writing c) n))
       where
         at : (w : Side) → let u = writingOf (p .sheet) c in trackAt (pair (written (p .sheet) u) (marked (p .first) u) (marked (p .second) u)) w ≡ remarked (sheetMarks c) (trackAt p w)
@@ -72,13 +72,13 @@ module _ (f : Format) where
         let d = on-is f p w c ∙ side-barred f p w c ∙ ap (λ (s : Track). meets (filter (p .sheet) s) (barred p w c) c) e in
         ap₂ _∷_ (ap tells d) (i ∙ ap (λ (u : Stepped). meetingTold f (u .filter .track) hs) d)
 
-    theirs : (v w : Side) → same v w ≡ false → trackAt p w ≡ remarked m t → trackAt (pairStep f p v c .pair) w ≡ remarked (m || marksBy c (pairStep f p v c .reply .refusal)) t
-    theirs v w n e = let b = marksBy c (pairStep f p v c .reply .refusal) in partner-marks p v w n c ∙ ap (remarked b) e ∙ remarked-twice m b t
+    theirs : (v w : Side) → same v w ≡ false → trackAt p w ≡ remarked m t → trackAt (pairStep f p v c .pair) w ≡ remarked (m || marksBy c (pairStep f p v c .reply .refusal .number)) t
+    theirs v w n e = let b = marksBy c (pairStep f p v c .reply .refusal .number) in partner-marks p v w n c ∙ ap (remarked b) e ∙ remarked-twice m b t
 
     at-call : (v w : Side) → trackAt p w ≡ remarked m t → (ks : List SideCall) → let u = pairStep f p v c in
         ((b : Bool) (s : Track) → trackAt (u .pair) w ≡ remarked b s → ofSide w (pairTold f (u .pair) ks) ≡ meetingTold f s (notices f w b (u .pair) ks))
         → cond (same v w) (tells (on v u) ∷ ofSide w (pairTold f (u .pair) ks)) (ofSide w (pairTold f (u .pair) ks))
-        ≡ meetingTold f t (cond (same v w) (record { call = c; sheet = p .sheet; mark = m; turned = barred p w c } ∷ notices f w false (u .pair) ks) (notices f w (m || marksBy c (u .reply .refusal)) (u .pair) ks))
+        ≡ meetingTold f t (cond (same v w) (record { call = c; sheet = p .sheet; mark = m; turned = barred p w c } ∷ notices f w false (u .pair) ks) (notices f w (m || marksBy c (u .reply .refusal .number)) (u .pair) ks))
     at-call First First e ks ih = mine First e _ _ (ih false _ refl)
     at-call First Second e ks ih = ih _ t (theirs First Second refl e)
     at-call Second First e ks ih = ih _ t (theirs Second First refl e)

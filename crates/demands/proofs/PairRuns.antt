@@ -19,20 +19,20 @@ use Rattle.demands.proofs.Rows.{two-ways}
 use Rattle.demands.proofs.PairSteps.{on-is, side-barred, replies-agree, reply-is, reached, unreached, refused-whole, taken-solo}
 
 abbrev number : Reply → ℕ
-number r = r .refusal
+number r = r .refusal .number
 
 module _ (f : Format) where
   -- ---- what the partner's call leaves: nothing has changed, but where it is a sheet change that is taken
 
   module _ (p : Pair) (v w : Side) (c : Call) (e : same v w ≡ false) where
-    left : (onSheet c ≡ true → pairStep f p v c .reply .refusal ≡ 0 → ⊥) → solo (pairStep f p v c .pair) w ≡ solo p w
+    left : (onSheet c ≡ true → pairStep f p v c .reply .refusal .number ≡ 0 → ⊥) → solo (pairStep f p v c .pair) w ≡ solo p w
     left n = go (onSheet c) refl
       where
         go : (b : Bool) → onSheet c ≡ b → solo (pairStep f p v c .pair) w ≡ solo p w
         go true h = ap (λ (q : Pair). solo q w) (refused-whole f p v c (n h))
         go false h = unreached f p v c w (rw (e, h))
 
-    made : onSheet c ≡ true → pairStep f p v c .reply .refusal ≡ 0 → solo (pairStep f p v c .pair) w ≡ step f (solo p w) c .filter
+    made : onSheet c ≡ true → pairStep f p v c .reply .refusal .number ≡ 0 → solo (pairStep f p v c .pair) w ≡ step f (solo p w) c .filter
     made h z = reached f p v c w (rw (e, h)) ∙ ap (λ (t : Stepped). t .filter) (taken-solo f p w c (ap number (sym (replies-agree f p v w c h) ∙ sym (reply-is f p v c)) ∙ z))
 
   -- ---- NOTICE
@@ -59,11 +59,11 @@ module _ (f : Format) where
     mine : (w : Side) → ts ≡ aloneTold f (solo (pairStep f p w c .pair) w) hs → tells (on w (pairStep f p w c)) ∷ ts ≡ aloneTold f (solo p w) (cond (barred p w c) turned-away (own c) ∷ hs)
     mine w i = at-own (solo p w) c (barred p w c) (on w (pairStep f p w c)) (on-is f p w c ∙ side-barred f p w c) hs ts i
 
-    theirs : (v w : Side) → same v w ≡ false → ts ≡ aloneTold f (solo (pairStep f p v c .pair) w) hs → ts ≡ aloneTold f (solo p w) (fromPartner c (pairStep f p v c .reply .refusal) ++ hs)
-    theirs v w e i = i ∙ at-partner (solo p w) (solo (pairStep f p v c .pair) w) c (pairStep f p v c .reply .refusal) (left p v w c e) (made p v w c e) hs
+    theirs : (v w : Side) → same v w ≡ false → ts ≡ aloneTold f (solo (pairStep f p v c .pair) w) hs → ts ≡ aloneTold f (solo p w) (fromPartner c (pairStep f p v c .reply .refusal .number) ++ hs)
+    theirs v w e i = i ∙ at-partner (solo p w) (solo (pairStep f p v c .pair) w) c (pairStep f p v c .reply .refusal .number) (left p v w c e) (made p v w c e) hs
 
     at-call : (v w : Side) → ts ≡ aloneTold f (solo (pairStep f p v c .pair) w) hs
-        → cond (same v w) (tells (on v (pairStep f p v c)) ∷ ts) ts ≡ aloneTold f (solo p w) (cond (same v w) (cond (barred p w c) turned-away (own c) ∷ []) (fromPartner c (pairStep f p v c .reply .refusal)) ++ hs)
+        → cond (same v w) (tells (on v (pairStep f p v c)) ∷ ts) ts ≡ aloneTold f (solo p w) (cond (same v w) (cond (barred p w c) turned-away (own c) ∷ []) (fromPartner c (pairStep f p v c .reply .refusal .number)) ++ hs)
     at-call First First i = mine First i
     at-call First Second i = theirs First Second refl i
     at-call Second First i = theirs Second First refl i

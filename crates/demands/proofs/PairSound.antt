@@ -8,7 +8,7 @@ use mathlib.Core.Logic.{⊎-elim}
 use lib.Dec.{leb}
 use lib.ListN.{length, take}
 use lib.Ieee.{Float, Format}
-use Rattle.floats.specs.Refusal.{STAGE, Outcome, refused, accepted, refusal, or}
+use Rattle.floats.specs.Refusal.{STAGE, taken, Outcome, refused, accepted, refusal, or}
 use Rattle.floats.specs.Numbers.{plusZero, allFinite}
 use Rattle.floats.proofs.Refusals.{number-above}
 use Rattle.sigma.specs.declared.Params.{Params}
@@ -16,9 +16,9 @@ use Rattle.filter.specs.declared.Filter.{Filter}
 use Rattle.filter.specs.declared.Answer.{Answer}
 use Rattle.filter.specs.Asked.{by-params, inRange, fit, every}
 use Rattle.filter.specs.Filters.{filter}
-use Rattle.filter.specs.Calls.{Call}
+use Rattle.filter.specs.Calls.{Call, valuesOf}
 use Rattle.filter.specs.Steps.{stepped, step}
-use Rattle.filter.specs.New.{empty, from, sheetFrom, trackFrom, newOf, newAnswer}
+use Rattle.filter.specs.New.{empty, from, inputsFor, sheetFrom, trackFrom, newOf, newAnswer}
 use Rattle.pairs.specs.declared.Pair.{Pair}
 use Rattle.pairs.specs.declared.Side.{Side}
 use Rattle.pairs.specs.declared.Side.the-variants.{First, Second}
@@ -30,7 +30,8 @@ use Rattle.demands.specs.PairRuns.{SideCall, on, pairTells, pairTold, ba
 use Rattle.demands.specs.PairSound.{AtWill, PairReached, pair-new, pair-further, PairYielded, pair-made, pair-stepped, pair-at-will}
 use Rattle.demands.proofs.Exactly.{or-refused}
 use Rattle.demands.proofs.Passed.{by-cases}
-use Rattle.demands.proofs.Arrays.{all-both, all-parts, filled-all}
+use Rattle.demands.proofs.Places.{finite-searched}
+use Rattle.demands.proofs.Arrays.{all-both, filled-all}
 use Rattle.demands.proofs.Sound.{sound, tells-finite}
 use Rattle.demands.proofs.PairSteps.{on-is, side-barred, reached, unreached}
 
@@ -45,10 +46,10 @@ module _ (f : Format) where
   module _ (n : ℕ) (q : List Float) (params : Params) where
     -- a New that has passed
     new-made : (x p : List Float) → inRange 1 8 n ≡ true → leb n (length x) ≡ true → leb (n * n) (length p) ≡ true → leb (n * n) (length q) ≡ true
-        → allFinite (take n x ++ take (n * n) p) ≡ true → allFinite (take (n * n) q ++ (params .alpha ∷ params .beta ∷ params .kappa ∷ [])) ≡ true → every (fit f) (by-params n params ∷ []) ≡ true
+        → allFinite (take n x) ≡ true → allFinite (take (n * n) p) ≡ true → allFinite (take (n * n) q) ≡ true → allFinite (valuesOf params) ≡ true → every (fit f) (by-params n params ∷ []) ≡ true
         → newOf f n x p q params ≡ accepted (filter (sheetFrom n q params) (trackFrom n (from x p)))
     unfolding newOf
-    new-made x p s a b c i k m = let u = all-both (take n x ++ take (n * n) p) _ i k in rw (s, a, b, c, u, m)
+    new-made x p s a b c i j k l m = let u = finite-searched (inputsFor n (from x p ∷ []) q params) (i, (j, (k, (l, tt)))) in rw (s, a, b, c, u, m)
 
     module _ (x₁ p₁ x₂ p₂ : List Float) where
       abbrev Sides : Outcome Pair → Type 0
@@ -59,25 +60,25 @@ module _ (f : Format) where
       unfolding newPairOf
       new-made-sides =
           by-cases Sides (λ r. tt) f (newPairAsks n x₁ p₁ x₂ p₂ q params) _ (λ h.
-          let a = all-parts (take n x₁ ++ take (n * n) p₁) _ (h .inputs) in
-          let b = all-parts (take n x₂ ++ take (n * n) p₂) _ (a .1) in (
-            new-made x₁ p₁ (h .sizes .0) (h .lent .0) (h .lent .1 .0) (h .lent .1 .1 .1 .1 .0) (a .0) (b .1) (h .params),
-            new-made x₂ p₂ (h .sizes .0) (h .lent .1 .1 .0) (h .lent .1 .1 .1 .0) (h .lent .1 .1 .1 .1 .0) (b .0) (b .1) (h .params),
+          let second = h .inputs .1 .1 in
+          let sheet = second .1 .1 in (
+            new-made x₁ p₁ (h .sizes .0) (h .lent .0) (h .lent .1 .0) (h .lent .1 .1 .1 .1 .0) (h .inputs .0) (h .inputs .1 .0) (sheet .0) (sheet .1 .0) (h .params),
+            new-made x₂ p₂ (h .sizes .0) (h .lent .1 .1 .0) (h .lent .1 .1 .1 .0) (h .lent .1 .1 .1 .1 .0) (second .0) (second .1 .0) (sheet .0) (sheet .1 .0) (h .params),
           ))
 
       -- EACH SIDE OF A NEW PAIR is what New makes of its own start; of a refused one, the empty filter
-      pub new-sides : newPairAnswer f n x₁ p₁ x₂ p₂ q params .refusal ≡ 0 → let p = newPairAnswer f n x₁ p₁ x₂ p₂ q params .pair in
-          (newAnswer f n x₁ p₁ q params ≡ record { filter = solo p First; refusal = 0 }) × (newAnswer f n x₂ p₂ q params ≡ record { filter = solo p Second; refusal = 0 })
+      pub new-sides : newPairAnswer f n x₁ p₁ x₂ p₂ q params .refusal .number ≡ 0 → let p = newPairAnswer f n x₁ p₁ x₂ p₂ q params .pair in
+          (newAnswer f n x₁ p₁ q params ≡ record { filter = solo p First; refusal = taken }) × (newAnswer f n x₂ p₂ q params ≡ record { filter = solo p Second; refusal = taken })
       new-sides = go (newPairOf f n x₁ p₁ x₂ p₂ q params) new-made-sides
         where
           answer : Outcome Filter → Answer
           answer o = record { filter = or empty o; refusal = refusal o }
 
-          go : (o : Outcome Pair) → Sides o → refusal o ≡ 0 → (newAnswer f n x₁ p₁ q params ≡ record { filter = solo (or emptyPair o) First; refusal = 0 }) × (newAnswer f n x₂ p₂ q params ≡ record { filter = solo (or emptyPair o) Second; refusal = 0 })
+          go : (o : Outcome Pair) → Sides o → refusal o .number ≡ 0 → (newAnswer f n x₁ p₁ q params ≡ record { filter = solo (or emptyPair o) First; refusal = taken }) × (newAnswer f n x₂ p₂ q params ≡ record { filter = solo (or emptyPair o) Second; refusal = taken })
           go (refused r) s e = absurd (omega (arith, number-above r))
           go (accepted p) s e = (ap answer (s .0), ap answer (s .1))
 
-      pub new-empty : (newPairAnswer f n x₁ p₁ x₂ p₂ q params .refusal ≡ 0 → ⊥) → newPairAnswer f n x₁ p₁ x₂ p₂ q params .pair ≡ emptyPair
+      pub new-empty : (newPairAnswer f n x₁ p₁ x₂ p₂ q params .refusal .number ≡ 0 → ⊥) → newPairAnswer f n x₁ p₁ x₂ p₂ q params .pair ≡ emptyPair
       new-empty = or-refused emptyPair (newPairOf f n x₁ p₁ x₂ p₂ q params)
 
       -- so what holds of whatever New gives holds of each

@@ -139,18 +139,18 @@ module _ (f : Format) (p : Pair) where
   -- ---- refused and taken
 
   -- A REFUSED CALL CHANGES NOTHING
-  pub refused-whole : (w : Side) (c : Call) → pairStep f p w c .reply .refusal ≢ 0 → pairStep f p w c .pair ≡ p
+  pub refused-whole : (w : Side) (c : Call) → pairStep f p w c .reply .refusal .number ≢ 0 → pairStep f p w c .pair ≡ p
   unfolding pairStep
   refused-whole w c = go (pairOutcome f p w c)
     where
-      go : (o : Outcome Done) → stepped (solo p w) o .reply .refusal ≢ 0 → leaves c p w o ≡ p
+      go : (o : Outcome Done) → stepped (solo p w) o .reply .refusal .number ≢ 0 → leaves c p w o ≡ p
       go (refused r) n = refl
       go (accepted d) n = absurd (n refl)
 
   -- taken, it is the solo call
-  pub taken-solo : (w : Side) (c : Call) → sideStep w c .reply .refusal ≡ 0 → sideStep w c ≡ step f (solo p w) c
-  taken-solo w c z = side-barred w c ∙ go (barred p w c) (ap (λ (t : Stepped). t .reply .refusal) (sym (side-barred w c)) ∙ z)
+  pub taken-solo : (w : Side) (c : Call) → sideStep w c .reply .refusal .number ≡ 0 → sideStep w c ≡ step f (solo p w) c
+  taken-solo w c z = side-barred w c ∙ go (barred p w c) (ap (λ (t : Stepped). t .reply .refusal .number) (sym (side-barred w c)) ∙ z)
     where
-      go : (b : Bool) → cond b (stepped (solo p w) (refused STAGE)) (step f (solo p w) c) .reply .refusal ≡ 0 → cond b (stepped (solo p w) (refused STAGE)) (step f (solo p w) c) ≡ step f (solo p w) c
+      go : (b : Bool) → cond b (stepped (solo p w) (refused STAGE)) (step f (solo p w) c) .reply .refusal .number ≡ 0 → cond b (stepped (solo p w) (refused STAGE)) (step f (solo p w) c) ≡ step f (solo p w) c
       go true h = absurd (omega arith)
       go false h = refl

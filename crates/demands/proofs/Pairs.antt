@@ -6,7 +6,8 @@ use mathlib.Core.List.{List, [], _∷_, _++_, map}
 use mathlib.Core.Logic.{_↔_, _≢_, _⊎_}
 use lib.ListN.{take}
 use lib.Ieee.{Float, Format}
-use Rattle.floats.specs.Refusal.{Refusal, SIZE, STAGE, number, refused}
+use Rattle.floats.specs.declared.Slice.the-variants.{State, Covariance, Noise, Lone}
+use Rattle.floats.specs.Refusal.{Refusal, SIZE, STAGE, verdict, taken, refused}
 use Rattle.floats.specs.Numbers.{plusZero, allFinite}
 use Rattle.floats.specs.Fronts.{over}
 use Rattle.matrix.specs.Results.{planned}
@@ -56,7 +57,7 @@ module _ (f : Format) where
 
     module _ (c : SheetCall) where
       -- A sheet change gets 3 exactly while either side has a call open, before any other number;
-      pub sheet-stage-when : (w : Side) → (pairStep f p w (writing c) .reply .refusal ≡ number STAGE) ↔ ((isShut (p .first .stage) ≡ false) ⊎ (isShut (p .second .stage) ≡ false))
+      pub sheet-stage-when : (w : Side) → (pairStep f p w (writing c) .reply .refusal ≡ verdict STAGE) ↔ ((isShut (p .first .stage) ≡ false) ⊎ (isShut (p .second .stage) ≡ false))
       sheet-stage-when w = either-open f p w c
 
       -- while neither has, it tells what the same call tells of either side alone, and does to each side what that does, refused or not;
@@ -64,11 +65,11 @@ module _ (f : Format) where
       sheet-change-solo = sheet-solo f p c
 
       -- accepted, it holds for both: it writes the sheet, and leaves both tracks as they were but for the mark,
-      pub sheet-change : (w : Side) → pairStep f p w (writing c) .reply .refusal ≡ 0 → let u = writingOf (p .sheet) c in pairStep f p w (writing c) .pair ≡ pair (written (p .sheet) u) (marked (p .first) u) (marked (p .second) u)
+      pub sheet-change : (w : Side) → pairStep f p w (writing c) .reply .refusal .number ≡ 0 → let u = writingOf (p .sheet) c in pairStep f p w (writing c) .pair ≡ pair (written (p .sheet) u) (marked (p .first) u) (marked (p .second) u)
       sheet-change w = sheet-written f p w c
 
       -- which parameters and kinds set on both, and Q on neither;
-      pub sheet-change-marks : (w : Side) → pairStep f p w (writing c) .reply .refusal ≡ 0 → (v : Side) → trackAt (pairStep f p w (writing c) .pair) v .stale ≡ (sheetMarks c || trackAt p v .stale)
+      pub sheet-change-marks : (w : Side) → pairStep f p w (writing c) .reply .refusal .number ≡ 0 → (v : Side) → trackAt (pairStep f p w (writing c) .pair) v .stale ≡ (sheetMarks c || trackAt p v .stale)
       sheet-change-marks w = sheet-marked f p w c
 
       -- and it is the same through either side, refused or not.
@@ -76,74 +77,74 @@ module _ (f : Format) where
       either-side = sheet-either f p c
 
     -- Both sides read one sheet: Q, and the parameters.
-    pub q-read : (w : Side) (b : List Float) → pairStep f p w (reading (read-q b)) .reply .refusal ≡ 0 → pairStep f p w (reading (read-q b)) .reply .given ≡ take (p .sheet .n * p .sheet .n) (p .sheet .q)
+    pub q-read : (w : Side) (b : List Float) → pairStep f p w (reading (read-q b)) .reply .refusal .number ≡ 0 → pairStep f p w (reading (read-q b)) .reply .given ≡ take (p .sheet .n * p .sheet .n) (p .sheet .q)
     q-read = reads-q f p
 
-    pub params-read : (w : Side) → pairStep f p w (reading read-params) .reply .refusal ≡ 0 → paramsRead (pairStep f p w (reading read-params) .reply) .params ≡ p .sheet .params
+    pub params-read : (w : Side) → pairStep f p w (reading read-params) .reply .refusal .number ≡ 0 → paramsRead (pairStep f p w (reading read-params) .reply) .params ≡ p .sheet .params
     params-read = reads-params f p
 
     -- ---- Demand 1
 
     module _ (w : Side) (c : Call) where
-      -- Any call on a side ends with 0 or with one of the numbers of the table;
-      pub a-result-or-a-refusal : (pairStep f p w c .reply .refusal ≡ 0) ⊎ ((r : Refusal) × (pairStep f p w c .reply .refusal ≡ number r))
+      -- Any call on a side ends with 0 at place 0, or with a refusal's number at its place;
+      pub a-result-or-a-refusal : (pairStep f p w c .reply .refusal ≡ taken) ⊎ ((r : Refusal) × (pairStep f p w c .reply .refusal ≡ verdict r))
       a-result-or-a-refusal = pair-ends f p w c
 
-      -- a number is given exactly when its row of the table applies and no row before it in the order does (`pairAsks`: as on the filter of that side, but that a sheet change fits only while neither side has a call open),
-      pub exactly-when : (r : Refusal) → (pairStep f p w c .reply .refusal ≡ number r) ↔ Due f (pairAsks p w c) (planned (plan f (seen (solo p w)) c)) r
+      -- a number at its place is given exactly when its row of the table applies there and no row before it in the order does (`pairAsks`: as on the filter of that side, but that a sheet change fits only while neither side has a call open),
+      pub exactly-when : (r : Refusal) → (pairStep f p w c .reply .refusal ≡ verdict r) ↔ Due f (pairAsks p w c) (planned (plan f (seen (solo p w)) c)) r
       exactly-when = pair-exactly f p w c
 
       -- and the call is taken exactly when no row applies.
-      pub taken-when : (pairStep f p w c .reply .refusal ≡ 0) ↔ ((d : Cause) → Applies f (pairAsks p w c) (planned (plan f (seen (solo p w)) c)) d → ⊥)
+      pub taken-when : (pairStep f p w c .reply .refusal .number ≡ 0) ↔ ((d : Cause) → Applies f (pairAsks p w c) (planned (plan f (seen (solo p w)) c)) d → ⊥)
       taken-when = pair-taken f p w c
 
       -- So 3 is given exactly when the call doesn't fit what is open, and n outside 1 to 8 gets 1 from every call that 3 doesn't stop.
-      pub stage-when : (pairStep f p w c .reply .refusal ≡ number STAGE) ↔ (pairFits p w c ≡ false)
+      pub stage-when : (pairStep f p w c .reply .refusal ≡ verdict STAGE) ↔ (pairFits p w c ≡ false)
       stage-when = stage-of f p w c
 
-      pub size-when : OutOfRange (record { value = p .sheet .n; from = 1; to = 8 }) → pairFits p w c ≡ true → pairStep f p w c .reply .refusal ≡ number SIZE
+      pub size-when : OutOfRange (record { value = p .sheet .n; from = 1; to = 8 }) → pairFits p w c ≡ true → pairStep f p w c .reply .refusal ≡ verdict SIZE
       size-when = size-first f p w c
 
       -- A refused call changes nothing: not the sheet, not either side, not a lent buffer b.
-      pub refused-changes-nothing : pairStep f p w c .reply .refusal ≢ 0 → (pairStep f p w c .pair ≡ p) × ((b : List Float) → over (pairStep f p w c .reply .given) b ≡ b)
+      pub refused-changes-nothing : pairStep f p w c .reply .refusal .number ≢ 0 → (pairStep f p w c .pair ≡ p) × ((b : List Float) → over (pairStep f p w c .reply .given) b ≡ b)
       refused-changes-nothing n = (refused-whole f p w c n, λ b. ap (λ (l : List Float). over l b) (pair-refused f p w c n .0))
 
       -- A refused reading of values answers +0, and stale.
-      pub refused-reading : pairStep f p w c .reply .refusal ≢ 0
+      pub refused-reading : pairStep f p w c .reply .refusal .number ≢ 0
           → (paramsRead (pairStep f p w c .reply) .params ≡ record { alpha = plusZero; beta = plusZero; kappa = plusZero }) × (staleRead (pairStep f p w c .reply) .stale ≡ true)
       refused-reading n = let r = pair-refused f p w c n in (ap paramsOf (r .0), r .1)
 
-  -- The code hands a step's pair and number back as they are.
+  -- The code hands a step's pair, number and place back as they are.
   pub handed-back : (t : PairStepped) → (pairAnswered t .pair ≡ t .pair) × (pairAnswered t .refusal ≡ t .reply .refusal)
   handed-back t = (refl, refl)
 
-  -- New of a pair asks for 1 to 8 states, for five slices that are long enough, for finite numbers in x and P of the first, x and P of the second, Q and the parameters, and for parameters that pass 6;
+  -- New of a pair asks for 1 to 8 states, for five slices that are long enough, for finite numbers, searched in x and P of the first, x and P of the second, Q and the parameters in this order, and for parameters that pass 6;
   module _ (n : ℕ) (x₁ p₁ x₂ p₂ q : List Float) (params : Params) where
     pub new-asks : newPairAsks n x₁ p₁ x₂ p₂ q params ≡ record {
       fits = true;
       sizes = record { value = n; from = 1; to = 8 } ∷ [];
       lent = record { slice = x₁; needs = n } ∷ record { slice = p₁; needs = n * n } ∷ record { slice = x₂; needs = n } ∷ record { slice = p₂; needs = n * n } ∷ record { slice = q; needs = n * n } ∷ [];
       stale = false;
-      inputs = (take n x₁ ++ take (n * n) p₁) ++ ((take n x₂ ++ take (n * n) p₂) ++ (take (n * n) q ++ (params .alpha ∷ params .beta ∷ params .kappa ∷ [])));
+      inputs = record { slice = State; numbers = take n x₁ } ∷ record { slice = Covariance; numbers = take (n * n) p₁ } ∷ record { slice = State; numbers = take n x₂ } ∷ record { slice = Covariance; numbers = take (n * n) p₂ } ∷ record { slice = Noise; numbers = take (n * n) q } ∷ record { slice = Lone; numbers = params .alpha ∷ params .beta ∷ params .kappa ∷ [] } ∷ [];
       plain = [];
       params = by-params n params ∷ [];
     }
     new-asks = refl
 
-    -- each of its numbers is given exactly when its row applies and no row before it does, and it is taken exactly when none does;
-    pub new-exactly-when : (r : Refusal) → (newPairAnswer f n x₁ p₁ x₂ p₂ q params .refusal ≡ number r) ↔ Due f (newPairAsks n x₁ p₁ x₂ p₂ q params) [] r
+    -- each of its numbers at its place is given exactly when its row applies there and no row before it does, and it is taken exactly when none does;
+    pub new-exactly-when : (r : Refusal) → (newPairAnswer f n x₁ p₁ x₂ p₂ q params .refusal ≡ verdict r) ↔ Due f (newPairAsks n x₁ p₁ x₂ p₂ q params) [] r
     new-exactly-when = new-pair-exactly f n x₁ p₁ x₂ p₂ q params
 
-    pub new-taken-when : (newPairAnswer f n x₁ p₁ x₂ p₂ q params .refusal ≡ 0) ↔ ((d : Cause) → Applies f (newPairAsks n x₁ p₁ x₂ p₂ q params) [] d → ⊥)
+    pub new-taken-when : (newPairAnswer f n x₁ p₁ x₂ p₂ q params .refusal .number ≡ 0) ↔ ((d : Cause) → Applies f (newPairAsks n x₁ p₁ x₂ p₂ q params) [] d → ⊥)
     new-taken-when = new-pair-taken f n x₁ p₁ x₂ p₂ q params
 
     -- accepted, New accepts each start by itself too, and each side is the filter that it gives;
-    pub new-gives : newPairAnswer f n x₁ p₁ x₂ p₂ q params .refusal ≡ 0 → let p = newPairAnswer f n x₁ p₁ x₂ p₂ q params .pair in
-        (newAnswer f n x₁ p₁ q params ≡ record { filter = solo p First; refusal = 0 }) × (newAnswer f n x₂ p₂ q params ≡ record { filter = solo p Second; refusal = 0 })
+    pub new-gives : newPairAnswer f n x₁ p₁ x₂ p₂ q params .refusal .number ≡ 0 → let p = newPairAnswer f n x₁ p₁ x₂ p₂ q params .pair in
+        (newAnswer f n x₁ p₁ q params ≡ record { filter = solo p First; refusal = taken }) × (newAnswer f n x₂ p₂ q params ≡ record { filter = solo p Second; refusal = taken })
     new-gives = new-sides f n q params x₁ p₁ x₂ p₂
 
     -- refused, both are empty.
-    pub refused-new : newPairAnswer f n x₁ p₁ x₂ p₂ q params .refusal ≢ 0 → newPairAnswer f n x₁ p₁ x₂ p₂ q params .pair ≡ emptyPair
+    pub refused-new : newPairAnswer f n x₁ p₁ x₂ p₂ q params .refusal .number ≢ 0 → newPairAnswer f n x₁ p₁ x₂ p₂ q params .pair ≡ emptyPair
     refused-new = new-empty f n q params x₁ p₁ x₂ p₂
 
   -- Each side of the empty pair answers as the empty filter does; so a sheet change gets 1 there.

@@ -4,12 +4,14 @@ use mathlib.Core.Bool.{Bool, true, false, not, _&&_, cond}
 use mathlib.Core.List.{List, [], _∷_}
 use borrow.Author.Tests.{not-true}
 use lib.Ieee.{Format}
-use Rattle.floats.specs.Refusal.{Refusal, SIZE, SHORT, STAGE, STALE, NUMBER, PARAM, KIND, Outcome, refused, accepted, unless, onward}
+use Rattle.floats.specs.Refusal.{Refusal, SIZE, SHORT, STAGE, STALE, PARAM, KIND, Outcome, refused, accepted, unless, onward}
 use Rattle.angles.specs.Kinds.{isPlain}
 use Rattle.floats.specs.Numbers.{allFinite}
+use Rattle.floats.specs.Search.{Input, searched}
 use Rattle.matrix.specs.Results
 use Rattle.matrix.specs.Results.{Work, product, then, Plan, finish, after, run, mapped}
 use Rattle.floats.proofs.Refusals.{refused-never}
+use Rattle.floats.proofs.Search.{first-good}
 use Rattle.matrix.proofs.Results.{whole, plan-accepted}
 use Rattle.matrix.proofs.Mapped.{run-mapped}
 use Rattle.filter.specs.Asked.{Asks, within, long, fit, every, guarded}
@@ -34,6 +36,14 @@ pub pass : {A : Type 0} (t : A → Bool) (l : List A) → every t l ≡ true →
 pass t [] h = tt
 pass t (x ∷ l) h = let k = both h in (k .0, pass t l (k .1))
 
+-- the numbers of a slice that come in are finite
+abbrev pub finiteIn : Input → Bool
+finiteIn i = allFinite (i .numbers)
+
+pub searched-finite : (l : List Input) {t : Bool} → searched l ≡ accepted t → Pass finiteIn l
+searched-finite [] e = tt
+searched-finite (x ∷ l) e = let w = first-good x l e in (w .0, searched-finite l (w .1))
+
 -- ---- what is asked
 
 pub record Passed (f : Format) (a : Asks) : Type 0 where
@@ -41,7 +51,7 @@ pub record Passed (f : Format) (a : Asks) : Type 0 where
   pub sizes : Pass within (a .sizes)
   pub lent : Pass long (a .lent)
   pub stale : a .stale ≡ false
-  pub inputs : allFinite (a .inputs) ≡ true
+  pub inputs : Pass finiteIn (a .inputs)
   pub plain : every isPlain (a .plain) ≡ true
   pub params : every (fit f) (a .params) ≡ true
 
@@ -51,6 +61,13 @@ module _ {A : Type 0} (P : Outcome A → Type 0) (never : (r : Refusal) → P (r
   layer true r o h = h refl
   layer false r o h = never r
 
+  search : (l : List Input) (o : Outcome A) → (Pass finiteIn l → P o) → P (onward (searched l) (λ (t : Bool). o))
+  search l o h = go (searched l) refl
+    where
+      go : (q : Outcome Bool) → searched l ≡ q → P (onward q (λ (t : Bool). o))
+      go (refused r) e = never r
+      go (accepted t) e = h (searched-finite l e)
+
   pub by-cases : (f : Format) (a : Asks) (o : Outcome A) → (Passed f a → P o) → P (guarded f a o)
   unfolding guarded
   by-cases f a o h =
@@ -58,7 +75,7 @@ module _ {A : Type 0} (P : Outcome A → Type 0) (never : (r : Refusal) → P (r
       layer (every within (a .sizes)) SIZE _ (λ h2.
       layer (every long (a .lent)) SHORT _ (λ h3.
       layer (not (a .stale)) STALE _ (λ h4.
-      layer (allFinite (a .inputs)) NUMBER _ (λ h5.
+      search (a .inputs) _ (λ h5.
       layer (every isPlain (a .plain)) KIND _ (λ h6.
       layer (every (fit f) (a .params)) PARAM _ (λ h7.
       h (record { fits = h1; sizes = pass within (a .sizes) h2; lent = pass long (a .lent) h3; stale = not-true (a .stale) h4; inputs = h5; plain = h6; params = h7 }))))))))

@@ -32,7 +32,7 @@ module _ (f : Format) (s : Filter) where
   after c = step f s c .filter
 
   abbrev Taken : Call → Type 0
-  Taken c = step f s c .reply .refusal ≡ 0
+  Taken c = step f s c .reply .refusal .number ≡ 0
 
   -- An accepted setting of x, P, the parameters or a kind marks the filter stale, whatever the numbers, those as before too. Setting Q does not; nor does an open call.
   pub setting-marks : (c : SetCall) → Taken (setting c) → after (setting c) .track .stale ≡ (marks c || s .track .stale)
@@ -104,7 +104,7 @@ module _ (f : Format) {s : Filter} (y : Yielded f s) where
     w0m-belongs-to-its-weights h = ap headBy (drawn-weights (correcting-open (s .track .stage) h))
 
     -- and, accepted, has made x and P by them.
-    pub corrected-by-its-parameters : step f s close .reply .refusal ≡ 0 → step f s close .filter ≡ (let h = headBy (weightsOf f (s .sheet .n) (s .sheet .params)) in closedWith s (s .track .«drawn_points») true (state f h) (covariance f h))
+    pub corrected-by-its-parameters : step f s close .reply .refusal .number ≡ 0 → step f s close .filter ≡ (let h = headBy (weightsOf f (s .sheet .n) (s .sheet .params)) in closedWith s (s .track .«drawn_points») true (state f h) (covariance f h))
     corrected-by-its-parameters e =
         correction-closed f s m z r kinds observed e
         ∙ ap (λ (h : Head). closedWith s (s .track .«drawn_points») true (state f h) (covariance f h)) (w0m-belongs-to-its-weights (taken-fits f s close e))

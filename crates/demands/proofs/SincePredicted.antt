@@ -7,7 +7,7 @@ use mathlib.Core.Logic.{⊎-elim}
 use native.Mathlib.Omega.{arith}
 use lib.Ieee.{Float, Format}
 use Rattle.floats.specs.Refusal.{or}
-use Rattle.floats.proofs.Refusals.{number-above}
+use Rattle.floats.proofs.Refusals.{number-above, number-of}
 use Rattle.sigma.specs.declared.Params.{Params}
 use Rattle.filter.specs.declared.Filter.{Filter}
 use Rattle.filter.specs.declared.Stage.the-variants.{Shut}
@@ -34,7 +34,7 @@ neither true b e = absurd (two-ways refl e)
 module _ (f : Format) (s : Filter) where
   -- ---- a call that is refused or doesn't mark leaves the rest
 
-  taken-bare : (c : Call) → Unmarking c → step f s c .reply .refusal ≡ 0 → bare s ≡ bare (step f s c .filter)
+  taken-bare : (c : Call) → Unmarking c → step f s c .reply .refusal .number ≡ 0 → bare s ≡ bare (step f s c .filter)
   taken-bare (setting (set-x v)) u z = absurd (two-ways refl u)
   taken-bare (setting (set-p v)) u z = absurd (two-ways refl u)
   taken-bare (writing (set-q v)) u z = ap bare (sym (writing-taken f s (set-q v) z))
@@ -50,8 +50,8 @@ module _ (f : Format) (s : Filter) where
   taken-bare abandon u z = step-cases f s abandon (λ t. bare s ≡ bare t) refl (λ d o g n. rw o)
   taken-bare (reading c) u z = step-cases f s (reading c) (λ t. bare s ≡ bare t) refl (λ d o g n. rw o)
 
-  unmarked-bare : (c : Call) → (step f s c .reply .refusal ≡ 0 → Unmarking c) → bare s ≡ bare (step f s c .filter)
-  unmarked-bare c h = ⊎-elim (λ z. taken-bare c (h z) z) (λ q. ap bare (sym (refused-nothing f s c (λ z. absurd (omega (arith, number-above (q .0), q .1, z))) .0))) (ends-so f s c)
+  unmarked-bare : (c : Call) → (step f s c .reply .refusal .number ≡ 0 → Unmarking c) → bare s ≡ bare (step f s c .filter)
+  unmarked-bare c h = ⊎-elim (λ e. let z = number-of e in taken-bare c (h z) z) (λ q. ap bare (sym (refused-nothing f s c (λ z. absurd (omega (arith, number-above (q .0), number-of (q .1), z))) .0))) (ends-so f s c)
 
   -- ---- a call after which the filter isn't stale: the close of a prediction, or one that is refused or doesn't mark
 
@@ -59,11 +59,11 @@ module _ (f : Format) (s : Filter) where
     abbrev So : Call → Type 0
     So c = step f s c .filter .track .stale ≡ false → SincePredicted f (step f s c .filter)
 
-    goes-on : (c : Call) → (step f s c .reply .refusal ≡ 0 → Unmarking c) → So c
+    goes-on : (c : Call) → (step f s c .reply .refusal .number ≡ 0 → Unmarking c) → So c
     goes-on c h e = unmarked (was (ap (λ (t : Filter). t .track .stale) (unmarked-bare c h) ∙ e)) c h
 
-    either : (c : Call) → (step f s c .reply .refusal ≡ 0 → So c) → So c
-    either c taken = ⊎-elim taken (λ q. goes-on c (λ z. absurd (omega (arith, number-above (q .0), q .1, z)))) (ends-so f s c)
+    either : (c : Call) → (step f s c .reply .refusal .number ≡ 0 → So c) → So c
+    either c taken = ⊎-elim (λ e. taken (number-of e)) (λ q. goes-on c (λ z. absurd (omega (arith, number-above (q .0), number-of (q .1), z)))) (ends-so f s c)
 
     call-so : (c : Call) → So c
     call-so (writing c) = either (writing c) (λ z e. goes-on (writing c) (λ k. neither (sheetMarks c) (s .track .stale) (sym (writing-marked f s c z) ∙ e) .0) e)

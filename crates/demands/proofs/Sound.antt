@@ -2,10 +2,9 @@
 use Prim.Native.Nat.{ℕ, _+_, _*_, _≤_, zero-le}
 use mathlib.Core.Path.{_≡_, refl, sym, ap}
 use mathlib.Core.Bool.{true}
-use mathlib.Core.List.{List, [], _∷_, _++_}
+use mathlib.Core.List.{List, [], _∷_}
 use native.Mathlib.Omega.{arith}
 use borrow.Author.Tests.{leb-true}
-use lib.ListN.{take}
 use lib.Ieee.{Float, Format}
 use Rattle.floats.specs.Refusal.{Refusal, Outcome, refused, accepted, or}
 use Rattle.floats.specs.Numbers.{zeros, allFinite}
@@ -16,21 +15,21 @@ use Rattle.sigma.specs.Draw.{pointNumbers}
 use Rattle.filter.specs.declared.Filter.{Filter}
 use Rattle.filter.specs.Asked.{by-params, fit}
 use Rattle.filter.specs.Filters.{filter, isShut, seen, Writing, q-set, params-set, kinds-set, Setting, x-set, p-set, opened-prediction, opened-correction, Change, writes, sets, closes, abandons, reads, changed}
-use Rattle.filter.specs.Calls.{Call, asks, Done, plan}
+use Rattle.filter.specs.Calls.{Call, valuesOf, asks, Done, plan}
 use Rattle.filter.specs.Steps.{outcome, stepped, step}
 use Rattle.filter.specs.New.{freshSheet, freshTrack, empty, from, newAsks, newOf, newAnswer}
 use Rattle.demands.specs.Runs.{tells, told, Alike}
 use Rattle.demands.specs.Sound.{Filled, Sound, Tidy, Reached, made, further, Yielded, fresh-made, stepped-on, put-at-will, handedOut, Each, end, and}
 use Rattle.demands.proofs.Rows.{two-ways}
 use Rattle.demands.proofs.Passed.{both, by-cases, run-cases}
-use Rattle.demands.proofs.Arrays.{all-both, all-parts, filled-front, filled-zeros, filled-all, plain-past}
+use Rattle.demands.proofs.Arrays.{all-both, filled-front, filled-zeros, filled-all, plain-past}
 use Rattle.demands.proofs.Fine.{Fine, FineDone, in-range, square-room, fine}
 
 module _ (f : Format) where
   -- ---- New
 
   fresh-sound : (n : ℕ) (x p q : List Float) (params : Params) → n ≤ 8 → Filled n 8 x → Filled (n * n) 64 p → Filled (n * n) 64 q
-      → allFinite (params .alpha ∷ params .beta ∷ params .kappa ∷ []) ≡ true → (1 ≤ n → weightsPass f n params ≡ true) → Sound f (filter (freshSheet n q params) (freshTrack x p))
+      → allFinite (valuesOf params) ≡ true → (1 ≤ n → weightsPass f n params ≡ true) → Sound f (filter (freshSheet n q params) (freshTrack x p))
   unfolding allFinite
   fresh-sound n x p q params h fx fp fq a w = record {
     small = h;
@@ -61,14 +60,12 @@ module _ (f : Format) where
     new-sound =
         by-cases (λ o. Sound f (or empty o)) (λ r. empty-sound) f (newAsks n (from x p ∷ []) q params) _ (λ h.
         let small = in-range 1 8 n (h .sizes .0) .1 in
-        let t = all-parts (take n x ++ take (n * n) p) _ (h .inputs) in
-        let a = all-parts (take n x) (take (n * n) p) (t .0) in
-        let c = all-parts (take (n * n) q) _ (t .1) in
+        let i = h .inputs in
         fresh-sound n _ _ _ params small
-        (filled-front n 8 x (leb-true _ _ (h .lent .0)) small (a .0))
-        (filled-front (n * n) 64 p (leb-true _ _ (h .lent .1 .0)) (square-room n small) (a .1))
-        (filled-front (n * n) 64 q (leb-true _ _ (h .lent .1 .1 .0)) (square-room n small) (c .0))
-        (c .1)
+        (filled-front n 8 x (leb-true _ _ (h .lent .0)) small (i .0))
+        (filled-front (n * n) 64 p (leb-true _ _ (h .lent .1 .0)) (square-room n small) (i .1 .0))
+        (filled-front (n * n) 64 q (leb-true _ _ (h .lent .1 .1 .0)) (square-room n small) (i .1 .1 .0))
+        (i .1 .1 .1 .0)
         (λ e. both {a = fit f (by-params n params)} (h .params) .0))
 
     pub new-tidy : Tidy (newAnswer f n x p q params .filter)

@@ -6,7 +6,8 @@ use mathlib.Core.List.{List, [], _∷_}
 use mathlib.Core.Logic.{_↔_, _≢_}
 use native.Mathlib.Omega.{arith}
 use lib.Ieee.{Format}
-use Rattle.floats.specs.Refusal.{Refusal, SIZE, SHORT, STAGE, STALE, NUMBER, PARAM, PIVOT, INNOV, RANGE, KIND, number}
+use Rattle.floats.specs.Refusal.{Refusal, SIZE, SHORT, STAGE, STALE, NUMBER, PARAM, PIVOT, INNOV, RANGE, KIND, verdict}
+use Rattle.floats.proofs.Refusals.{number-of}
 use Rattle.floats.specs.Numbers.{zeros}
 use Rattle.floats.specs.Fronts.{front}
 use Rattle.matrix.specs.Results.{Result, planned}
@@ -18,7 +19,7 @@ use Rattle.filter.specs.Filters.{seen, Writing, Setting, Closing, Change, write
 use Rattle.filter.specs.Calls.{set-x, set-p, set-q, set-params, set-kind, open-prediction, open-correction, close-prediction, close-correction, close-correction-flat, read-x, read-p, read-q, read-points, read-params, read-stale, Call, writing, setting, closing, abandon, reading, fits, asks, Done, closed, plan, weightedFrom, flatFrom}
 use Rattle.filter.specs.Steps.{step}
 use Rattle.filter.proofs.Closing.{predicting}
-use Rattle.demands.specs.Rows.{Some, here, OutOfRange, IsTurn, IsFlat, FirstFails, Cause, stage, size, short, stale, kind, param, met, gives, Applies, place, ByStep}
+use Rattle.demands.specs.Rows.{Some, here, OutOfRange, searches, IsTurn, IsFlat, FirstFails, Cause, stage, size, short, stale, kind, param, met, gives, Applies, rank, ByStep}
 use Rattle.demands.specs.Rows as Row
 use Rattle.demands.specs.Sound.{end, and}
 use Rattle.demands.proofs.Rows.{two-ways, none}
@@ -72,6 +73,26 @@ module _ (f : Format) (s : Filter) where
   regular (reading read-params) = lined refl refl none end (ran-finish _ _ refl)
   regular (reading read-stale) = lined refl refl none end (ran-finish _ _ refl)
 
+-- what a call searches
+pub searches-so : (s : Filter) (c : Call) → asks s c .inputs ≡ searches (s .sheet .n) c
+searches-so s (writing (set-q v)) = refl
+searches-so s (writing (set-params p)) = refl
+searches-so s (writing (set-kind i k)) = refl
+searches-so s (setting (set-x v)) = refl
+searches-so s (setting (set-p v)) = refl
+searches-so s (setting (open-prediction b)) = refl
+searches-so s (setting (open-correction b)) = refl
+searches-so s (closing (close-prediction v)) = refl
+searches-so s (closing (close-correction m z r kinds observed)) = refl
+searches-so s (closing (close-correction-flat m z r observed)) = refl
+searches-so s abandon = refl
+searches-so s (reading (read-x b)) = refl
+searches-so s (reading (read-p b)) = refl
+searches-so s (reading (read-q b)) = refl
+searches-so s (reading (read-points b)) = refl
+searches-so s (reading read-params) = refl
+searches-so s (reading read-stale) = refl
+
 -- ---- so of every call
 
 -- the row of a refusal; those that steps alone give have none of their own
@@ -80,11 +101,11 @@ row SIZE = size
 row SHORT = short
 row STAGE = stage
 row STALE = stale
-row NUMBER = Row.number
+row (NUMBER s i) = Row.number s i
 row KIND = kind
 row PARAM = param
-row PIVOT = met PIVOT
-row INNOV = met INNOV
+row (PIVOT j) = met (PIVOT j)
+row (INNOV j) = met (INNOV j)
 row RANGE = met RANGE
 
 module _ (f : Format) (s : Filter) (c : Call) where
@@ -94,30 +115,30 @@ module _ (f : Format) (s : Filter) (c : Call) where
   abbrev pub Asked : Cause → Type 0
   Asked = Applies f (asks (seen s) c) results
 
-  -- the steps give 5, 7, 8 and 9 alone
+  -- the steps give 56 at 0, 7, 8 and 9 alone
   pub steps-give : (r : Refusal) → FirstFails r results → ByStep r
   steps-give r w = met-by-step (regular f (seen s) c .met) w
 
   -- the row of r applies, and none before it
   abbrev pub ByRow : Refusal → Type 0
-  ByRow r = Asked (row r) × ((d : Cause) → place d < place (row r) → Asked d → ⊥)
+  ByRow r = Asked (row r) × ((d : Cause) → rank d < rank (row r) → Asked d → ⊥)
 
   -- a number that no step gives is given by its row
-  pub by-row : (r : Refusal) → (ByStep r → ⊥) → step f s c .reply .refusal ≡ number r → ByRow r
+  pub by-row : (r : Refusal) → (ByStep r → ⊥) → step f s c .reply .refusal ≡ verdict r → ByRow r
   by-row r n e = let d = exactly f s c r .0 e in go (d .cause) (d .gives-it) (d .applies) (d .no-earlier)
     where
-      go : (d : Cause) → gives d ≡ r → Asked d → ((b : Cause) → place b < place d → Asked b → ⊥) → ByRow r
+      go : (d : Cause) → gives d ≡ r → Asked d → ((b : Cause) → rank b < rank d → Asked b → ⊥) → ByRow r
       go stage e x w = subst ByRow e (x, w)
       go size e x w = subst ByRow e (x, w)
       go short e x w = subst ByRow e (x, w)
       go stale e x w = subst ByRow e (x, w)
-      go Row.number e x w = subst ByRow e (x, w)
+      go (Row.number t i) e x w = subst ByRow e (x, w)
       go kind e x w = subst ByRow e (x, w)
       go param e x w = subst ByRow e (x, w)
       go (met q) e x w = absurd (n (steps-give r (rw e at x)))
 
   -- 3 is given exactly when the call doesn't fit what is open
-  pub stage-exactly : (step f s c .reply .refusal ≡ number STAGE) ↔ (fits c (s .track .stage) ≡ false)
+  pub stage-exactly : (step f s c .reply .refusal ≡ verdict STAGE) ↔ (fits c (s .track .stage) ≡ false)
   stage-exactly =
       let line = regular f (seen s) c in (
         λ e. sym (line .fitting) ∙ by-row STAGE (λ b. b) e .0,
@@ -125,36 +146,36 @@ module _ (f : Format) (s : Filter) (c : Call) where
       )
 
   -- so a call that is taken fits
-  pub taken-fits : step f s c .reply .refusal ≡ 0 → fits c (s .track .stage) ≡ true
+  pub taken-fits : step f s c .reply .refusal .number ≡ 0 → fits c (s .track .stage) ≡ true
   taken-fits e = go (fits c (s .track .stage)) refl
     where
       go : (t : Bool) → fits c (s .track .stage) ≡ t → t ≡ true
       go true h = refl
-      go false h = absurd (let z : _≡_ {A = ℕ} 3 0 = sym (stage-exactly .1 h) ∙ e in omega arith)
+      go false h = absurd (let z : _≡_ {A = ℕ} 3 0 = sym (number-of (stage-exactly .1 h)) ∙ e in omega arith)
 
   -- 10 is given by a flat close alone
-  pub kind-only : step f s c .reply .refusal ≡ number KIND → IsFlat c
+  pub kind-only : step f s c .reply .refusal ≡ verdict KIND → IsFlat c
   kind-only e = regular f (seen s) c .only (by-row KIND (λ b. b) e .0)
 
   -- 4 is never given by a call that stale doesn't stop, nor 6 where nothing has to pass it
-  pub never-stale : asks (seen s) c .stale ≡ false → step f s c .reply .refusal ≢ number STALE
+  pub never-stale : asks (seen s) c .stale ≡ false → step f s c .reply .refusal ≢ verdict STALE
   never-stale h e = two-ways (by-row STALE (λ b. b) e .0) h
 
-  pub never-param : asks (seen s) c .params ≡ [] → step f s c .reply .refusal ≢ number PARAM
+  pub never-param : asks (seen s) c .params ≡ [] → step f s c .reply .refusal ≢ verdict PARAM
   never-param h e = none (rw h at by-row PARAM (λ b. b) e .0)
 
   -- 1 is given for n outside 1 to 8, by every call that 3 doesn't stop
-  pub states-first : OutOfRange (record { value = s .sheet .n; from = 1; to = 8 }) → fits c (s .track .stage) ≡ true → step f s c .reply .refusal ≡ number SIZE
+  pub states-first : OutOfRange (record { value = s .sheet .n; from = 1; to = 8 }) → fits c (s .track .stage) ≡ true → step f s c .reply .refusal ≡ verdict SIZE
   states-first o h =
       let line = regular f (seen s) c in
       exactly f s c SIZE .1 (record { cause = size; gives-it = refl; applies = rw (line .states) (here o); no-earlier = λ d l x. absurd (early d l x (line .fitting ∙ h)) })
     where
-      early : (d : Cause) → place d < 1 → Asked d → asks (seen s) c .fits ≡ true → ⊥
+      early : (d : Cause) → rank d < 1 → Asked d → asks (seen s) c .fits ≡ true → ⊥
       early stage l x t = two-ways t x
       early size l x t = absurd (omega arith)
       early short l x t = absurd (omega arith)
       early stale l x t = absurd (omega arith)
-      early Row.number l x t = absurd (omega arith)
+      early (Row.number v i) l x t = absurd (omega arith)
       early kind l x t = absurd (omega arith)
       early param l x t = absurd (omega arith)
       early (met r) l x t = absurd (omega arith)

@@ -26,7 +26,7 @@ use Rattle.correction.specs.Correct.{Head, applyPlan, given, weightedHead, corr
 use Rattle.filter.specs.declared.Filter.{Filter}
 use Rattle.filter.specs.Asked.{Asks, guarded}
 use Rattle.filter.specs.Filters.{isCorrecting, seen}
-use Rattle.filter.specs.Calls.{closing, close-correction, sized, inKinds, asKinds, line, observedNumbers, lentMeasured, measurement, closed}
+use Rattle.filter.specs.Calls.{closing, close-correction, sized, halves, asKinds, line, lentMeasured, inputsMeasured, measurement, closed}
 use Rattle.filter.specs.Steps.{step, stepped}
 
 -- ---- folds over functions that agree where they are asked
@@ -116,7 +116,7 @@ kinds-unread f s m z r observed ks ls h a b e =
     λ v. line (isCorrecting (t .track .stage)) (t .sheet .n) (sized m 1 4)
     (lentMeasured (t .sheet .n) m z r observed)
     false
-    (take m z ++ (take (m * m) r ++ (inKinds v ++ take (observedNumbers (t .sheet .n) m) observed)))
+    (inputsMeasured (t .sheet .n) m z r observed (halves v))
     (asKinds v) in
     ap₂ (λ (v : List Kind) (q : Plan Moment). stepped s (guarded f (asked v) (run (mapped (closed (t .track .«drawn_weights») (t .track .«drawn_points») true) q)))) e
     (let v = measurement (t .sheet .n) m z r observed in

@@ -6,12 +6,14 @@ use mathlib.Core.List.{List, [], _∷_, _++_, map}
 use lib.ListN.{take, getD, replicate}
 use lib.Dec.{eqb}
 use lib.Ieee.{Float, nan, binary64, ofBits, neg}
-use Rattle.floats.specs.Refusal.{PIVOT, Outcome, refused, accepted, refusal, or}
+use Rattle.floats.specs.declared.Verdict.{Verdict}
+use Rattle.floats.specs.Refusal.{PIVOT, taken, Outcome, refused, accepted, refusal, or}
 use Rattle.floats.specs.Numbers.{zeros}
 use Rattle.floats.specs.Fronts.{front}
 use Rattle.root.specs.Answer.{outcomeOf, answer}
 use Rattle.angles.specs.Wrap.{wrapOf, wrapped}
 use Rattle.angles.specs.Kinds.{plain}
+use Rattle.angles.specs.declared.Kind.{Kind}
 use Rattle.angles.specs.declared.Residual.the-variants.{Turn}
 use Rattle.matrix.specs.Results.{Result, numbers, pivot, rooting, worked, results}
 use Rattle.matrix.specs.Factor.{factorOf}
@@ -44,6 +46,10 @@ c2 = params (int 1) (int 2) (int 1)
 abbrev pub c4 : Params
 c4 = params (int 1) (int 0) (minus 1)
 
+-- a number at a place
+abbrev pub says : Verdict → ℕ → ℕ → Bool
+says v number place = eqb (v .number) number && eqb (v .place) place
+
 -- ---- leaves
 
 -- an outcome that is accepted, with this value
@@ -56,7 +62,7 @@ rootIs x r = accepts (outcomeOf (answer x)) r
 
 -- the wrap of d by 180
 abbrev pub wrapIs : Float → Float → Bool
-wrapIs d w = let a = wrapped (wrapOf binary64 d (int 180)) in eqb (a .refusal) 0 && (a .value is w)
+wrapIs d w = let a = wrapped (wrapOf binary64 d (int 180)) in eqb (a .refusal .number) 0 && (a .value is w)
 
 -- rows of two
 abbrev pub rows : Float → Float → Float → Float → List Float
@@ -90,13 +96,17 @@ measuringBy r z observed = closing (close-correction 1 (z ∷ []) (r ∷ []) (re
 abbrev pub measuring : Float → List Float → Call
 measuring = measuringBy (int 12)
 
--- what a call should tell: the number, the numbers given, and x, P and the stale mark after it
+-- what a call should tell: the number at its place, the numbers given, and x, P and the stale mark after it
+abbrev pub tellingAt : ℕ → ℕ → List Float → Float → Float → Bool → Told
+tellingAt number place given x p stale = record { reply = record { refusal = record { number = number; place = place }; given = given; stale = true }; x = x ∷ []; p = p ∷ []; stale = stale }
+
+-- at place 0
 abbrev pub telling : ℕ → List Float → Float → Float → Bool → Told
-telling number given x p stale = record { reply = record { refusal = number; given = given; stale = true }; x = x ∷ []; p = p ∷ []; stale = stale }
+telling number = tellingAt number 0
 
 -- and a reading of the stale mark
 abbrev pub marking : Float → Float → Bool → Told
-marking x p stale = record { reply = record { refusal = 0; given = []; stale = stale }; x = x ∷ []; p = p ∷ []; stale = stale }
+marking x p stale = record { reply = record { refusal = taken; given = []; stale = stale }; x = x ∷ []; p = p ∷ []; stale = stale }
 
 abbrev pub story : List (String × (Call × Told))
 story =
@@ -120,7 +130,7 @@ story =
     ∷ []
 
 -- A1 through the calls, on the same filter, by numbers that part from the weighted close's: propagated 5, 4, 0 the points average to 3 and x is 2. Observed 2, 5, −1 average to 2;
--- S = (0·0 + 3·3 + 3·3)/3 + 10 = 16, C = (2·0 + 1·3 + 3·3)/3 = 4, K = 4/16, y = 6 − 2, so x = 2 + 1 and P = 5 − 1. Then a turn: 5 before 10, and 10
+-- S = (0·0 + 3·3 + 3·3)/3 + 10 = 16, C = (2·0 + 1·3 + 3·3)/3 = 4, K = 4/16, y = 6 − 2, so x = 2 + 1 and P = 5 − 1. Then a turn: 55 before 10, and 10
 abbrev pub measuringFlat : Float → Call
 measuringFlat z = closing (close-correction-flat 1 (z ∷ []) (int 10 ∷ []) (int 2 ∷ int 5 ∷ minus 1 ∷ []))
 
@@ -134,7 +144,7 @@ flatStory =
     ∷ ("A1 stale", (reading read-stale, marking (int 3) (int 4) true))
     ∷ ("A1 a turn", (writing (set-kind 0 (record { residual = Turn (int 180) })), telling 0 [] (int 3) (int 4) true))
     ∷ ("A1 drawn afresh", (setting (open-correction three), telling 0 (int 3 ∷ int 5 ∷ int 1 ∷ []) (int 3) (int 4) true))
-    ∷ ("A1 a number before a turn", (measuringFlat nan, telling 5 [] (int 3) (int 4) true))
+    ∷ ("A1 a number before a turn", (measuringFlat nan, telling 55 [] (int 3) (int 4) true))
     ∷ ("A1 turned away", (measuringFlat (int 6), telling 10 [] (int 3) (int 4) true))
     ∷ ("A1 abandoned", (abandon, telling 0 [] (int 3) (int 4) true))
     ∷ []
@@ -202,13 +212,43 @@ pairStory =
     ∷ ("A4 the second as it was", (by Second (reading (read-points three)), telling 4 [] (int 5) (int 16) true))
     ∷ []
 
+-- A5 through the calls, on the same filter: two measurements, whose R, observed points, z and half-turns are searched in this order. Observed all 1, S is R; of R = (1 2, 2 1) the second pivot is 1 − 2·2
+abbrev pub searching : List Float → List Float → List Float → List Kind → Call
+searching z r observed kinds = closing (close-correction 2 z r kinds observed)
+
+abbrev pub ones : List Float
+ones = replicate 6 (int 1)
+
+abbrev pub turnsOf : Float → Float → List Kind
+turnsOf g h = record { residual = Turn g } ∷ record { residual = Turn h } ∷ plain ∷ plain ∷ []
+
+abbrev pub noise : List Float
+noise = int 1 ∷ int 2 ∷ int 2 ∷ int 1 ∷ []
+
+abbrev pub placeStory : List (String × (Call × Told))
+placeStory =
+    ("A5 a state", (setting (set-x (nan ∷ [])), telling 51 [] (int 2) (int 4) true))
+    ∷ ("A5 kappa", (writing (set-params (params (int 1) (int 0) nan)), tellingAt 56 2 [] (int 2) (int 4) true))
+    ∷ ("A5 open", (setting (open-correction three), telling 0 (int 2 ∷ int 4 ∷ int 0 ∷ []) (int 2) (int 4) true))
+    ∷ ("A5 R before z", (searching (nan ∷ nan ∷ []) (int 1 ∷ int 0 ∷ nan ∷ nan ∷ []) ones (turnsOf (int 0) nan), tellingAt 53 2 [] (int 2) (int 4) true))
+    ∷ ("A5 points before z", (searching (nan ∷ nan ∷ []) noise (int 1 ∷ int 1 ∷ int 1 ∷ int 1 ∷ nan ∷ int 1 ∷ []) (turnsOf (int 0) nan), tellingAt 54 4 [] (int 2) (int 4) true))
+    ∷ ("A5 z before half-turns", (searching (int 1 ∷ nan ∷ []) noise ones (turnsOf nan nan), tellingAt 55 1 [] (int 2) (int 4) true))
+    ∷ ("A5 half-turns before 6", (searching (int 1 ∷ int 1 ∷ []) noise ones (turnsOf (int 0) nan), tellingAt 56 1 [] (int 2) (int 4) true))
+    ∷ ("A5 6", (searching (int 1 ∷ int 1 ∷ []) noise ones (turnsOf (int 0) (int 1)), telling 6 [] (int 2) (int 4) true))
+    ∷ ("A5 a pivot of S", (searching (int 1 ∷ int 1 ∷ []) noise ones (replicate 4 plain), tellingAt 8 1 [] (int 2) (int 4) true))
+    ∷ []
+
+-- New of two states, by its P
+abbrev pub newSays : List Float → List Float → ℕ → ℕ → Bool
+newSays x p number place = says (newAnswer binary64 2 x p (int 1 ∷ int 0 ∷ int 0 ∷ int 1 ∷ []) c4 .refusal) number place
+
 -- New of a pair: a short P of the second comes before a number of the first, a number of the second before the parameters; a refused one has no states (`refused-new` in Pairs has all of it)
 abbrev pub newPairIs : List Float → List Float → List Float → List Float → Params → ℕ → Bool
-newPairIs x₁ p₁ x₂ p₂ par number = let a = newPairAnswer binary64 1 x₁ p₁ x₂ p₂ (int 1 ∷ []) par in eqb (a .refusal) number && eqb (a .pair .sheet .n) 0
+newPairIs x₁ p₁ x₂ p₂ par number = let a = newPairAnswer binary64 1 x₁ p₁ x₂ p₂ (int 1 ∷ []) par in says (a .refusal) number 0 && eqb (a .pair .sheet .n) 0
 
 abbrev pub agrees : Told → Told → Bool
 agrees t e =
-    eqb (t .reply .refusal) (e .reply .refusal)
+    says (t .reply .refusal) (e .reply .refusal .number) (e .reply .refusal .place)
     && ((t .reply .given are e .reply .given) && (Bool·beq (t .reply .stale) (e .reply .stale) && ((take 1 (t .x) are e .x) && ((take 1 (t .p) are e .p) && Bool·beq (t .stale) (e .stale)))))
 
 abbrev pub against : {A : Type 0} → List (String × (A × Told)) → List Told → List (String × Bool)
@@ -231,7 +271,7 @@ leafCases =
     ∷ ("C3 w0c", w0cOf binary64 2 c1 is int 0)
     ∷ ("C3 wi", wiOf binary64 2 c1 is frac 1 4)
     ∷ ("C4 N", scaleOf binary64 1 c4 is int 0)
-    ∷ ("C4 refused", eqb (newAnswer binary64 1 (int 2 ∷ []) (int 4 ∷ []) (int 1 ∷ []) c4 .refusal) 6)
+    ∷ ("C4 refused", says (newAnswer binary64 1 (int 2 ∷ []) (int 4 ∷ []) (int 1 ∷ []) c4 .refusal) 6 0)
     ∷ ("C5 root of 16", rootIs (int 16) (int 4))
     ∷ ("C5 root of 2^−1074", rootIs (two-to-minus 1074) (two-to-minus 537))
     ∷ ("C5 root of 2", rootIs (int 2) (ofBits binary64 0x3FF6_A09E_667F_3BCD))
@@ -243,7 +283,11 @@ leafCases =
     ∷ ("C6 −350", wrapIs (minus 350) (int 10))
     ∷ ("C7", take 4 (or [] (worked (factorOf binary64 PIVOT (rows (int 4) (int 2) (int 2) (int 5)) 2))) are (int 2 ∷ int 0 ∷ int 1 ∷ int 2 ∷ []))
     ∷ ("C8 second pivot", checked (getD (results (factorOf binary64 PIVOT (rows (int 1) (int 2) (int 2) (int 1)) 2)) 2 (numbers [])) is minus 3)
-    ∷ ("C8 refused", eqb (refusal (worked (factorOf binary64 PIVOT (rows (int 1) (int 2) (int 2) (int 1)) 2))) 7)
+    ∷ ("C8 refused", says (refusal (worked (factorOf binary64 PIVOT (rows (int 1) (int 2) (int 2) (int 1)) 2))) 7 1)
+    ∷ ("A5 the first of two", newSays (int 1 ∷ int 2 ∷ []) (int 1 ∷ nan ∷ nan ∷ int 1 ∷ []) 52 1)
+    ∷ ("A5 x before P", newSays (int 1 ∷ nan ∷ []) (nan ∷ int 0 ∷ int 0 ∷ int 1 ∷ []) 51 1)
+    ∷ ("A5 root of −1", says (refusal (outcomeOf (answer (minus 1)))) 56 0)
+    ∷ ("A5 wrap of a NaN", says (wrapped (wrapOf binary64 nan (int 180)) .refusal) 56 0)
     ∷ ("C10 S", take 1 (c10 .s) are (int 16 ∷ []))
     ∷ ("C10 K", take 1 (gain binary64 c10) are (frac 1 4 ∷ []))
     ∷ ("C12 mean", take 1 (meanOf binary64 (int 179 ∷ minus 171 ∷ int 169 ∷ []) 1 2 (w0mOf binary64 1 c1) (weightsOf binary64 1 c1) (record { residual = Turn (int 180) } ∷ [])) are (int 179 ∷ []))
@@ -258,12 +302,15 @@ flatCases = against flatStory (told binary64 at-first (map (λ e. e .1 .0) flatS
 abbrev pub settingCases : List (String × Bool)
 settingCases = against settingStory (told binary64 at-first (map (λ e. e .1 .0) settingStory))
 
+abbrev pub placeCases : List (String × Bool)
+placeCases = against placeStory (told binary64 at-first (map (λ e. e .1 .0) placeStory))
+
 abbrev pub pairCases : List (String × Bool)
 pairCases =
     ("A4 New, a short P and a number", newPairIs (nan ∷ []) (int 4 ∷ []) (int 3 ∷ []) [] c4 2)
-    ∷ ("A4 New, a number and parameters", newPairIs (int 2 ∷ []) (int 4 ∷ []) (int 3 ∷ []) (nan ∷ []) c4 5)
+    ∷ ("A4 New, a number and parameters", newPairIs (int 2 ∷ []) (int 4 ∷ []) (int 3 ∷ []) (nan ∷ []) c4 52)
     ∷ ("A4 New, parameters", newPairIs (int 2 ∷ []) (int 4 ∷ []) (int 3 ∷ []) (int 4 ∷ []) c4 6)
     ∷ against pairStory (map (λ t. t .told) (pairTold binary64 both (map (λ e. e .1 .0) pairStory)))
 
 abbrev pub cases : List (String × Bool)
-cases = leafCases ++ (callCases ++ (flatCases ++ (settingCases ++ pairCases)))
+cases = leafCases ++ (callCases ++ (flatCases ++ (settingCases ++ (placeCases ++ pairCases))))

@@ -95,7 +95,7 @@ module _ (f : Format) where
   hears w p [] = []
   hears w p (t ∷ ts) =
       let u = pairStep f p (t .side) (t .call) in
-      cond (same (t .side) w) (cond (barred p w (t .call)) turned-away (own (t .call)) ∷ []) (fromPartner (t .call) (u .reply .refusal)) ++ hears w (u .pair) ts
+      cond (same (t .side) w) (cond (barred p w (t .call)) turned-away (own (t .call)) ∷ []) (fromPartner (t .call) (u .reply .refusal .number)) ++ hears w (u .pair) ts
 
   -- a filter alone that is given these, and what it tells at its own calls, those turned away among them
   unfoldable pub aloneTold : Filter → List Heard → List Told
@@ -134,7 +134,7 @@ module _ (f : Format) where
       let u = pairStep f p (t .side) (t .call) in
       cond (same (t .side) w)
       (record { call = t .call; sheet = p .sheet; mark = m; turned = barred p w (t .call) } ∷ notices w false (u .pair) ts)
-      (notices w (m || marksBy (t .call) (u .reply .refusal)) (u .pair) ts)
+      (notices w (m || marksBy (t .call) (u .reply .refusal .number)) (u .pair) ts)
 
   -- a track that meets these, and what it tells
   unfoldable pub meetingTold : Track → List Noticed → List Told
@@ -177,7 +177,7 @@ module _ (f : Format) where
         {b : Striking} {p : Pair} {w : Side} {c : Call} {cs ds : List SideCall} → ((v : Side) → reaches w c v ≡ true → b v ≡ false)
         → PairStruck b (pairStep f p w c .pair) cs ds → PairStruck b p (by w c ∷ cs) (by w c ∷ ds)
     refused-struck :
-        {b : Striking} {p : Pair} {w : Side} {c : Call} {cs ds : List SideCall} → (pairStep f p w c .reply .refusal ≡ 0 → ⊥)
+        {b : Striking} {p : Pair} {w : Side} {c : Call} {cs ds : List SideCall} → (pairStep f p w c .reply .refusal .number ≡ 0 → ⊥)
         → PairStruck b (pairStep f p w c .pair) cs ds → PairStruck b p (by w c ∷ cs) ds
     open-struck :
         {b : Striking} {p : Pair} {w : Side} {c : SetCall} {cs ds : List SideCall} → b w ≡ false → isShut (trackAt p w .stage) ≡ true → isShut (trackAt (pairStep f p w (setting c) .pair) w .stage) ≡ false

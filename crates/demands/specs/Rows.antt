@@ -1,14 +1,18 @@
--- The table of refusals in document 01's own words (10 is document 02's; that 3 is wider on a pair is in what a call on a side asks, `pairFits`), and when a number is due. Definitions only.
+-- The table of refusals in the documents' own words (10 and the places are document 02's; that 3 is wider on a pair is in what a call on a side asks, `pairFits`), and when a number is due. Definitions only.
 use Prim.Native.Nat.{ℕ, _+_, _*_, _<_, _≤_}
 use mathlib.Core.Path.{_≡_}
 use mathlib.Core.Bool.{true, false}
-use mathlib.Core.List.{List, _∷_}
+use mathlib.Core.List.{List, [], _∷_, _++_}
 use mathlib.Core.Logic.{_⊎_, _≢_}
-use lib.ListN.{length, take}
-use lib.Ieee.{Float, Format, lt, add}
+use lib.ListN.{length, take, getD}
+use lib.Ieee.{Float, nan, Format, lt, add}
 use lib.Ieee.Scale.{finite}
-use Rattle.floats.specs.Refusal.{Refusal, SIZE, SHORT, STAGE, STALE, NUMBER, PARAM, PIVOT, INNOV, RANGE, KIND}
+use Rattle.floats.specs.declared.Slice.{Slice}
+use Rattle.floats.specs.declared.Slice.the-variants.{State, Covariance, Noise, Points, Measurement, Lone}
+use Rattle.floats.specs.Refusal.{Refusal, SIZE, SHORT, STAGE, STALE, NUMBER, PARAM, PIVOT, INNOV, RANGE, KIND, badLone, sliceNumber}
+use Rattle.floats.specs.Search.{Input, input}
 use Rattle.floats.specs.Numbers.{plusZero, allFinite}
+use Rattle.angles.specs.Kinds.{halfOf}
 use Rattle.angles.specs.declared.Kind.{Kind}
 use Rattle.angles.specs.declared.Residual.{Residual}
 use Rattle.angles.specs.declared.Residual.the-variants.{Plain, Turn}
@@ -17,7 +21,7 @@ use Rattle.sigma.specs.Weights.{scaleOf, w0mOf, w0cOf, wiOf}
 use Rattle.filter.specs.declared.Filter.{Filter}
 use Rattle.filter.specs.Filters.{isCorrecting}
 use Rattle.filter.specs.Asked.{Size, Lent, Param, by-params, by-kind, Asks}
-use Rattle.filter.specs.Calls.{Call, writing, setting, closing, abandon, reading, close-prediction, close-correction, close-correction-flat}
+use Rattle.filter.specs.Calls.{Call, writing, setting, closing, abandon, reading, set-x, set-p, set-q, set-params, set-kind, open-prediction, open-correction, close-prediction, close-correction, close-correction-flat, halves}
 
 -- one of the list has P
 pub data Some {A : Type 0} (P : A → Type 0) : List A → Type 0 where
@@ -41,6 +45,32 @@ OutOfRange s = (s .value < s .from) ⊎ (s .to < s .value)
 abbrev pub Shorter : Lent → Type 0
 Shorter l = length (l .slice) < l .needs
 
+-- 51 to 56: number i of a slice isn't finite, and all before it are;
+pub record FirstIn (v : List Float) (i : ℕ) : Type 0 where
+  pub inside : i < length v
+  pub bad : NotFinite (getD v i nan)
+  pub before : (j : ℕ) → j < i → NotFinite (getD v j nan) → ⊥
+
+-- of the slices in the order of the search it is s that has it, and all numbers of those before it are finite
+pub data FirstBad : Slice → ℕ → List Input → Type 0 where
+  found : {i : ℕ} {x : Input} {l : List Input} → FirstIn (x .numbers) i → FirstBad (x .slice) i (x ∷ l)
+  further : {s : Slice} {i : ℕ} {x : Input} {l : List Input} → (Some NotFinite (x .numbers) → ⊥) → FirstBad s i l → FirstBad s i (x ∷ l)
+
+-- what each call searches, in the request's words: state, covariance, noise, points, measurement, lone values. Of a filter of n states
+abbrev pub searches : ℕ → Call → List Input
+searches n (setting (set-x v)) = input State (take n v)
+searches n (setting (set-p v)) = input Covariance (take (n * n) v)
+searches n (writing (set-q v)) = input Noise (take (n * n) v)
+searches n (writing (set-params p)) = input Lone (p .alpha ∷ p .beta ∷ p .kappa ∷ [])
+searches n (writing (set-kind i k)) = input Lone (halfOf k ∷ [])
+searches n (closing (close-prediction v)) = input Points (take ((n + n + 1) * n) v)
+searches n (closing (close-correction m z r kinds observed)) = input Noise (take (m * m) r) ++ (input Points (take ((n + n + 1) * m) observed) ++ (input Measurement (take m z) ++ input Lone (halves (take m kinds))))
+searches n (closing (close-correction-flat m z r observed)) = input Noise (take (m * m) r) ++ (input Points (take ((n + n + 1) * m) observed) ++ (input Measurement (take m z) ++ input Lone []))
+searches n (setting (open-prediction b)) = []
+searches n (setting (open-correction b)) = []
+searches n abandon = []
+searches n (reading c) = []
+
 -- 10: a state kind is a turn
 abbrev pub IsTurn : Kind → Type 0
 IsTurn k = (h : Float) × (k .residual ≡ Turn h)
@@ -54,7 +84,7 @@ abbrev pub Unfit : Format → Param → Type 0
 Unfit f (by-params n p) = (NotFinite (scaleOf f n p) ⊎ NotAbove (scaleOf f n p)) ⊎ (NotFinite (w0mOf f n p) ⊎ (NotFinite (w0cOf f n p) ⊎ NotFinite (wiOf f n p)))
 Unfit f (by-kind k) = UnfitTurn f (k .residual)
 
--- 7 and 8: a pivot isn't finite or isn't above 0; 9: a listed step result isn't finite; 5: root of a number that isn't finite or is below zero
+-- 7 and 8: a pivot isn't finite or isn't above 0; 9: a listed step result isn't finite; 56: root of a number that isn't finite or is below zero
 abbrev pub Fails : Result → Type 0
 Fails (numbers v) = Some NotFinite v
 Fails (pivot r x) = NotFinite x ⊎ NotAbove x
@@ -68,7 +98,8 @@ pub data FirstFails : Refusal → List Result → Type 0 where
 -- ---- THE TABLE: the causes of a refusal, a row each; what the steps meet comes by the first result that fails
 
 pub data Cause : Type 0 where
-  stage size short stale number kind param : Cause
+  stage size short stale kind param : Cause
+  number : Slice → ℕ → Cause
   met : Refusal → Cause
 
 abbrev pub gives : Cause → Refusal
@@ -76,7 +107,7 @@ gives stage = STAGE
 gives size = SIZE
 gives short = SHORT
 gives stale = STALE
-gives number = NUMBER
+gives (number s i) = NUMBER s i
 gives kind = KIND
 gives param = PARAM
 gives (met r) = r
@@ -86,40 +117,40 @@ Applies f a vs stage = a .fits ≡ false
 Applies f a vs size = Some OutOfRange (a .sizes)
 Applies f a vs short = Some Shorter (a .lent)
 Applies f a vs stale = a .stale ≡ true
-Applies f a vs number = Some NotFinite (a .inputs)
+Applies f a vs (number s i) = FirstBad s i (a .inputs)
 Applies f a vs kind = Some IsTurn (a .plain)
 Applies f a vs param = Some (Unfit f) (a .params)
 Applies f a vs (met r) = FirstFails r vs
 
--- the order: 3, 1, 2, 4, 5, 10, 6, then 7, 8 and 9 as the steps meet them
-abbrev pub place : Cause → ℕ
-place stage = 0
-place size = 1
-place short = 2
-place stale = 3
-place number = 4
-place kind = 5
-place param = 6
-place (met r) = 7
+-- the order: 3, 1, 2, 4, 51 to 56 as the search finds them, 10, 6, then 7, 8 and 9 as the steps meet them
+abbrev pub rank : Cause → ℕ
+rank stage = 0
+rank size = 1
+rank short = 2
+rank stale = 3
+rank (number s i) = 4
+rank kind = 5
+rank param = 6
+rank (met r) = 7
 
 -- r is due: a row that gives it applies, and no row before it in the order
 pub record Due (f : Format) (a : Asks) (vs : List Result) (r : Refusal) : Type 0 where
   pub cause : Cause
   pub gives-it : gives cause ≡ r
   pub applies : Applies f a vs cause
-  pub no-earlier : (c : Cause) → place c < place cause → Applies f a vs c → ⊥
+  pub no-earlier : (c : Cause) → rank c < rank cause → Applies f a vs c → ⊥
 
--- ---- the numbers that a step can give: 5, 7, 8 and 9
+-- ---- what a step can give: 56 at 0, 7 and 8 at any row, and 9
 
 abbrev pub ByStep : Refusal → Type 0
 ByStep SIZE = ⊥
 ByStep SHORT = ⊥
 ByStep STAGE = ⊥
 ByStep STALE = ⊥
-ByStep NUMBER = Unit {0}
+ByStep (NUMBER s i) = NUMBER s i ≡ badLone
 ByStep PARAM = ⊥
-ByStep PIVOT = Unit {0}
-ByStep INNOV = Unit {0}
+ByStep (PIVOT j) = Unit {0}
+ByStep (INNOV j) = Unit {0}
 ByStep RANGE = Unit {0}
 ByStep KIND = ⊥
 
@@ -143,6 +174,6 @@ pub record Measurable (s : Filter) (m : ℕ) (z r observed : List Float) : Type 
   pub finite-r : allFinite (take (m * m) r) ≡ true
   pub finite-observed : allFinite (take ((s .sheet .n + s .sheet .n + 1) * m) observed) ≡ true
 
--- neither 5 nor 6
+-- neither one of 51 to 56 nor 6
 abbrev pub Neither : ℕ → Type 0
-Neither k = (k ≢ 5) × (k ≢ 6)
+Neither k = ((s : Slice) → k ≢ sliceNumber s) × (k ≢ 6)

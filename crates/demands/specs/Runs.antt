@@ -56,7 +56,7 @@ module _ (f : Format) where
   pub data Struck : Filter → List Call → List Call → Type 0 where
     none-left : {s : Filter} → Struck s [] []
     call-kept : {s : Filter} {c : Call} {cs ds : List Call} → Struck (step f s c .filter) cs ds → Struck s (c ∷ cs) (c ∷ ds)
-    refused-struck : {s : Filter} {c : Call} {cs ds : List Call} → (step f s c .reply .refusal ≡ 0 → ⊥) → Struck (step f s c .filter) cs ds → Struck s (c ∷ cs) ds
+    refused-struck : {s : Filter} {c : Call} {cs ds : List Call} → (step f s c .reply .refusal .number ≡ 0 → ⊥) → Struck (step f s c .filter) cs ds → Struck s (c ∷ cs) ds
     opening-struck :
         {s : Filter} (c : Call) (mid : List Call) {cs ds : List Call} → isShut (s .track .stage) ≡ true → StaysOpen (step f s c .filter) mid
         → Struck (ranTo f s (c ∷ mid ++ (abandon ∷ []))) cs ds → Struck s ((c ∷ mid ++ (abandon ∷ [])) ++ cs) ds

@@ -35,8 +35,8 @@ Unmarking (reading c) = Unit {0}
 
 -- the filters that an accepted close of a prediction leaves, and those that calls after it yield, each of them refused or one of these
 pub data SincePredicted (f : Format) : Filter → Type 0 where
-  predicted : {s : Filter} → Yielded f s → (v : List Float) → step f s (closing (close-prediction v)) .reply .refusal ≡ 0 → SincePredicted f (step f s (closing (close-prediction v)) .filter)
-  unmarked : {s : Filter} → SincePredicted f s → (c : Call) → (step f s c .reply .refusal ≡ 0 → Unmarking c) → SincePredicted f (step f s c .filter)
+  predicted : {s : Filter} → Yielded f s → (v : List Float) → step f s (closing (close-prediction v)) .reply .refusal .number ≡ 0 → SincePredicted f (step f s (closing (close-prediction v)) .filter)
+  unmarked : {s : Filter} → SincePredicted f s → (c : Call) → (step f s c .reply .refusal .number ≡ 0 → Unmarking c) → SincePredicted f (step f s c .filter)
 
 -- the Q of that prediction
 abbrev pub qThen : {f : Format} {s : Filter} → SincePredicted f s → List Float

@@ -15,7 +15,7 @@ use Rattle.filter.specs.declared.Filter.{Filter}
 use Rattle.filter.specs.declared.Weighted.{Weighted}
 use Rattle.filter.specs.Asked.{fit, every}
 use Rattle.filter.specs.Filters.{isShut, isCorrecting}
-use Rattle.filter.specs.Calls.{Call, inKinds, asKinds}
+use Rattle.filter.specs.Calls.{Call, halves, valuesOf, asKinds}
 use Rattle.filter.specs.Steps.{step}
 use Rattle.filter.specs.New.{newAnswer}
 use Rattle.demands.specs.Runs.{Told, Alike}
@@ -43,9 +43,9 @@ pub record Sound (f : Format) (s : Filter) : Type 0 where
   pub p : Filled (s .sheet .n * s .sheet .n) 64 (s .track .p)
   pub q : Filled (s .sheet .n * s .sheet .n) 64 (s .sheet .q)
   -- stored parameters and kinds have passed 5 and 6; those of the empty filter, where n = 0, pass 6 for no number of states
-  pub params : allFinite (s .sheet .params .alpha ∷ s .sheet .params .beta ∷ s .sheet .params .kappa ∷ []) ≡ true
+  pub params : allFinite (valuesOf (s .sheet .params)) ≡ true
   pub passed : 1 ≤ s .sheet .n → weightsPass f (s .sheet .n) (s .sheet .params) ≡ true
-  pub kinds : allFinite (inKinds (s .sheet .kinds)) ≡ true
+  pub kinds : allFinite (halves (s .sheet .kinds)) ≡ true
   pub turns : every (fit f) (asKinds (s .sheet .kinds)) ≡ true
   pub eight : length (s .sheet .kinds) ≡ 8
   -- those past the states are plain

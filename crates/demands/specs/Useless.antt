@@ -6,7 +6,7 @@ use mathlib.Core.List.{List, [], _∷_, _++_, map}
 use mathlib.Core.Logic.{_↔_}
 use lib.ListN.{length, take, getD, replicate}
 use lib.Ieee.{Float, nan, binary64}
-use Rattle.floats.specs.Refusal.{Refusal, number, refused}
+use Rattle.floats.specs.Refusal.{Refusal, verdict, refused}
 use Rattle.floats.specs.Numbers.{plusZero, zeros}
 use Rattle.matrix.specs.Results.{planned}
 use Rattle.filter.specs.declared.Track.{Track}
@@ -30,7 +30,7 @@ right = step binary64
 
 -- demand 1: a number is given exactly when it is due
 abbrev pub ExactlyWhen : Build → Type 0
-ExactlyWhen b = (s : Filter) (c : Call) (r : Refusal) → (b s c .reply .refusal ≡ number r) ↔ Due binary64 (asks (seen s) c) (planned (plan binary64 (seen s) c)) r
+ExactlyWhen b = (s : Filter) (c : Call) (r : Refusal) → (b s c .reply .refusal ≡ verdict r) ↔ Due binary64 (asks (seen s) c) (planned (plan binary64 (seen s) c)) r
 
 -- what a run tells
 unfoldable pub toldBy : Build → Filter → List Call → List Told

@@ -1,13 +1,16 @@
 -- The closes: while a call is open what was drawn is seen, and what the steps make is refused or installed. Assumes nothing.
 use Prim.Native.Nat.{ℕ}
-use mathlib.Core.Path.{_≡_, refl, sym, ap, _∙_}
+use mathlib.Core.Path.{_≡_, refl, sym, ap, ap₂, _∙_}
 use mathlib.Core.Bool.{Bool, true, false, cond, false≢true}
 use mathlib.Core.List.{List}
 use borrow.Author.Tests.{eqb-true, eqb-false}
 use lib.Dec.{eqb}
 use lib.Ieee.{Float, Format}
+use Rattle.floats.specs.declared.Verdict.{Verdict}
+use Rattle.floats.specs.Refusal.{taken, refusal}
 use Rattle.floats.specs.Numbers.{zeros}
 use Rattle.floats.specs.Fronts.{front}
+use Rattle.floats.proofs.Refusals.{number-of, gave-zero}
 use Rattle.angles.specs.declared.Kind.{Kind}
 use Rattle.matrix.specs.Results.{Plan, run, mapped}
 use Rattle.sigma.specs.Weights.{w0mOf}
@@ -22,7 +25,7 @@ use Rattle.filter.specs.declared.Answer.{Answer}
 use Rattle.filter.specs.Filters.{isShut, isPredicting, isCorrecting, seen, closedWith}
 use Rattle.filter.specs.Calls.{Call, closing, close-prediction, close-correction, close-correction-flat, closed, weightedFrom, flatFrom, plan}
 use Rattle.filter.specs.Steps.{step, answered, closedBy}
-use Rattle.filter.proofs.Taken.{Told, stayed, accepted-as, stopped, made}
+use Rattle.filter.proofs.Taken.{Told, answering, stopped, made}
 
 -- ---- what was drawn is seen
 
@@ -58,24 +61,27 @@ module _ (f : Format) (s : Filter) where
 
 -- by whether the number is 0
 either : (s : Filter) (v : List Float) (stale : Bool) (m : Moments) (a : Answer)
-    → (m .refusal ≡ 0 → accepted-as (closedWith s v stale (m .x) (m .p)) ≡ a)
-    → ((m .refusal ≡ 0 → ⊥) → answered (stayed s (m .refusal)) ≡ a)
+    → (m .refusal .number ≡ 0 → answering (m .refusal) (closedWith s v stale (m .x) (m .p)) ≡ a)
+    → ((m .refusal .number ≡ 0 → ⊥) → answering (m .refusal) s ≡ a)
     → closedBy s v stale m ≡ a
-either s v stale m a made refused = go (eqb (m .refusal) 0) (λ h. eqb-true _ _ h) (λ h. eqb-false _ _ h)
+either s v stale m a made refused = go (eqb (m .refusal .number) 0) (λ h. eqb-true _ _ h) (λ h. eqb-false _ _ h)
   where
-    go : (t : Bool) → (t ≡ true → m .refusal ≡ 0) → (t ≡ false → m .refusal ≡ 0 → ⊥)
-        → cond t (accepted-as (closedWith s v stale (m .x) (m .p))) (answered (stayed s (m .refusal))) ≡ a
+    go : (t : Bool) → (t ≡ true → m .refusal .number ≡ 0) → (t ≡ false → m .refusal .number ≡ 0 → ⊥)
+        → answering (m .refusal) (cond t (closedWith s v stale (m .x) (m .p)) s) ≡ a
     go true h k = made (h refl)
     go false h k = refused (k refl)
 
-module _ {f : Format} {s : Filter} {c : Call} (t : Told f s c) (z : t .told ≡ 0) (v : List Float) (stale : Bool) (p : Plan Moment) (is : plan f (seen s) c ≡ mapped (closed (s .track .«drawn_weights») v stale) p) {m : Moments} (e : m ≡ moments (run p)) where
-  number-is : m .refusal ≡ moments (run p) .refusal
-  number-is = ap (λ (x : Moments). x .refusal) e
+module _ {f : Format} {s : Filter} {c : Call} (t : Told f s c) (z : t .told .number ≡ 0) (v : List Float) (stale : Bool) (p : Plan Moment) (is : plan f (seen s) c ≡ mapped (closed (s .track .«drawn_weights») v stale) p) {m : Moments} (e : m ≡ moments (run p)) where
+  told-is : m .refusal ≡ refusal (run p)
+  told-is = ap (λ (x : Moments). x .refusal) e
+
+  told-taken : m .refusal .number ≡ 0 → m .refusal ≡ taken
+  told-taken h = told-is ∙ ap refusal (gave-zero (run p) nothingMade (sym (number-of told-is) ∙ h))
 
   pub closes-so : {r : Answer} → r ≡ closedBy s v stale m → r ≡ answered (step f s c)
   closes-so d =
       d
       ∙ either s v stale m (answered (step f s c))
-      (λ h. ap (λ (x : Moments). accepted-as (closedWith s v stale (x .x) (x .p))) e
-      ∙ ap answered (sym (made t z (closed (s .track .«drawn_weights») v stale) p is nothingMade (sym number-is ∙ h))))
-      (λ h. ap (λ (x : ℕ). answered (stayed s x)) number-is ∙ ap answered (sym (stopped t z (closed (s .track .«drawn_weights») v stale) p is (λ y. h (number-is ∙ y)))))
+      (λ h. ap₂ answering (told-taken h) (ap (λ (x : Moments). closedWith s v stale (x .x) (x .p)) e)
+      ∙ ap answered (sym (made t z (closed (s .track .«drawn_weights») v stale) p is nothingMade (sym (number-of told-is) ∙ h))))
+      (λ h. ap (λ (x : Verdict). answering x s) told-is ∙ ap answered (sym (stopped t z (closed (s .track .«drawn_weights») v stale) p is (λ y. h (number-of told-is ∙ y)))))

@@ -1,22 +1,18 @@
--- The tests of residual kinds: the first m pass a test where none of them fails it, and what 5 and 6 ask of a kind by the number that its check gives. Assumes nothing.
+-- The tests of residual kinds: the first m pass a test where none of them fails it; what 6 asks of them, and the numbers that they bring in. Assumes nothing.
 use Prim.Native.Nat.{ℕ, zero, suc, _+_, _<_, _≤_}
 use native.Mathlib.Numerals.{add-one}
 use native.Mathlib.Omega.{arith}
-use mathlib.Core.Path.{_≡_, refl, sym, ap, ap₂, _∙_}
-use mathlib.Core.Bool.{Bool, true, false, not, _&&_, false≢true}
+use mathlib.Core.Path.{_≡_, refl, sym, ap, _∙_}
+use mathlib.Core.Bool.{Bool, true, false, _&&_}
 use mathlib.Core.List.{List, [], _∷_}
-use lib.Dec.{eqb}
 use lib.ListN.{length, take, getD}
 use lib.Seq.{take-suc}
-use lib.Ieee.{Format}
-use Rattle.floats.specs.Refusal.{NUMBER, PARAM, accepted, refusal, unless}
-use Rattle.floats.specs.Numbers.{allFinite}
-use Rattle.floats.proofs.Finite.{all-append}
-use Rattle.angles.specs.Kinds.{numbersIn, passes}
+use lib.Ieee.{Float, Format}
+use Rattle.angles.specs.Kinds.{halfOf}
 use Rattle.angles.specs.declared.Kind.{Kind}
-use Rattle.filter.specs.Asked.{fit, clear, every}
-use Rattle.filter.specs.Calls.{inKinds, asKinds}
-use Rattle.filter.proofs.Sizes.{and-left, and-right, every-append}
+use Rattle.filter.specs.Asked.{passing, fit, every}
+use Rattle.filter.specs.Calls.{halves, asKinds}
+use Rattle.filter.proofs.Sizes.{every-append}
 
 -- ---- the first i pass the test t
 
@@ -56,32 +52,13 @@ module _ {t : Kind → Bool} {s : List Kind} {i : ℕ} (at : Passed t s i) where
   pub passed-end : (m : ℕ) → i ≡ m → true ≡ every t (take m s)
   passed-end m e = sym (at .is) ∙ ap (λ (j : ℕ). every t (take j s)) e
 
--- ---- 5 and 6, by the number that the check of a kind gives
+-- ---- 6, and the numbers that kinds bring in
 
-module _ (f : Format) where
-  by-finite : (a b : Bool) (k : Kind) → not (eqb (refusal (unless a NUMBER (unless b PARAM (accepted k)))) 5) ≡ a
-  by-finite false b k = refl
-  by-finite true false k = refl
-  by-finite true true k = refl
+pub all-pass : (f : Format) (l : List Kind) → every (passing f) l ≡ every (fit f) (asKinds l)
+all-pass f [] = refl
+all-pass f (k ∷ l) = ap (λ (b : Bool). passing f k && b) (all-pass f l)
 
-  by-pass : (a b : Bool) (k : Kind) → a ≡ true → not (eqb (refusal (unless a NUMBER (unless b PARAM (accepted k)))) 6) ≡ b
-  by-pass true false k e = refl
-  by-pass true true k e = refl
-  by-pass false b k e = absurd (false≢true e)
-
-  pub clear-finite : (k : Kind) → clear f 5 k ≡ allFinite (numbersIn (k .residual))
-  clear-finite k = by-finite (allFinite (numbersIn (k .residual))) (passes f (k .residual)) k
-
-  pub clear-passes : (k : Kind) → allFinite (numbersIn (k .residual)) ≡ true → clear f 6 k ≡ passes f (k .residual)
-  clear-passes k = by-pass (allFinite (numbersIn (k .residual))) (passes f (k .residual)) k
-
-  pub all-clear : (l : List Kind) → every (clear f 5) l ≡ allFinite (inKinds l)
-  unfolding allFinite
-  all-clear [] = refl
-  all-clear (k ∷ l) = ap₂ (λ (a b : Bool). a && b) (clear-finite k) (all-clear l) ∙ sym (all-append (numbersIn (k .residual)) (inKinds l))
-
-  pub all-pass : (l : List Kind) → allFinite (inKinds l) ≡ true → every (clear f 6) l ≡ every (fit f) (asKinds l)
-  all-pass [] h = refl
-  all-pass (k ∷ l) h =
-      let e = sym (all-append (numbersIn (k .residual)) (inKinds l)) ∙ h in
-      ap₂ (λ (a b : Bool). a && b) (clear-passes k (and-left _ _ e)) (all-pass l (and-right (allFinite (numbersIn (k .residual))) _ e))
+pub halves-take : (m : ℕ) (l : List Kind) → take m (halves l) ≡ halves (take m l)
+halves-take zero l = refl
+halves-take (suc m) [] = refl
+halves-take (suc m) (k ∷ l) = ap (λ (v : List Float). halfOf k ∷ v) (halves-take m l)

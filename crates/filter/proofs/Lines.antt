@@ -1,18 +1,20 @@
 -- Lines of the table of calls (`line` of specs/Calls.antt): what its tests say of n and of a slice, and counts of numbers that need only be right at sizes up to 8. Assumes nothing.
 use Prim.Native.Nat.{ℕ, _≤_, _*_}
-use mathlib.Core.Path.{_≡_, refl, sym, ap, _∙_}
+use mathlib.Core.Path.{_≡_, refl, ap, _∙_}
 use mathlib.Core.Bool.{Bool, true, false, _&&_, cond}
-use mathlib.Core.List.{List, [], _∷_, _++_, append-assoc}
+use mathlib.Core.List.{List, [], _∷_, _++_}
 use native.Mathlib.Omega.{arith}
 use borrow.Author.Tests.{leb-true}
 use lib.ListN.{length, take}
 use lib.Dec.{leb}
 use lib.Ieee.{Float, Format}
-use Rattle.floats.specs.Refusal.{Outcome, refusal}
-use Rattle.floats.specs.Numbers.{zeros, allFinite}
+use Rattle.floats.specs.declared.Slice.{Slice}
+use Rattle.floats.specs.declared.Verdict.{Verdict}
+use Rattle.floats.specs.Refusal.{Outcome, refusal, nothing}
+use Rattle.floats.specs.Search.{Input, input}
+use Rattle.floats.specs.Numbers.{zeros}
 use Rattle.floats.specs.Fronts.{front}
-use Rattle.floats.proofs.Finite.{all-append}
-use Rattle.filter.specs.Asked.{Size, Lent, Param, Asks, inRange, within, long, every, guarded, nothing, firstRefusal}
+use Rattle.filter.specs.Asked.{Size, Lent, Param, Asks, inRange, within, long, every, guarded, firstRefusal}
 use Rattle.filter.specs.Calls.{sized, lend, line}
 use Rattle.filter.proofs.Sizes.{and-left, and-right, range-le, within-8, square-le}
 use Rattle.filter.proofs.Order.{Passed}
@@ -23,7 +25,7 @@ states-le n sizes e = range-le 1 8 n (and-left (inRange 1 8 n) (every within siz
 pub measured-le : (n m : ℕ) → every within (record { value = n; from = 1; to = 8 } ∷ sized m 1 4) ≡ true → m ≤ 4
 measured-le n m e = range-le 1 4 m (and-left (inRange 1 4 m) true (and-right (inRange 1 8 n) (inRange 1 4 m && true) e))
 
-module _ (f : Format) {fits : Bool} {n : ℕ} {sizes : List Size} {stale : Bool} {inputs : List Float} {params : List Param} where
+module _ (f : Format) {fits : Bool} {n : ℕ} {sizes : List Size} {stale : Bool} {inputs : List Input} {params : List Param} where
   pub sized-le : {lent : List Lent} → Passed f (line fits n sizes lent stale inputs params) → n ≤ 8
   sized-le p = states-le n sizes (p .sized)
 
@@ -40,7 +42,7 @@ unsized : {A : Type 0} (f : Format) (a b : Asks) (o p : Outcome A) → a .fits �
 unfolding guarded
 unsized f a b o p e s t = rw (e, s, t)
 
-module _ {A : Type 0} (f : Format) (fits : Bool) (n : ℕ) (lent : ℕ → List Lent) (stale : Bool) (inputs : ℕ → List Float) (o : ℕ → Outcome A) where
+module _ {A : Type 0} (f : Format) (fits : Bool) (n : ℕ) (lent : ℕ → List Lent) (stale : Bool) (inputs : ℕ → List Input) (o : ℕ → Outcome A) where
   pub counted : {j k : ℕ} → (n ≤ 8 → j ≡ k) → guarded f (line fits n [] (lent j) stale (inputs j) []) (o j) ≡ guarded f (line fits n [] (lent k) stale (inputs k) []) (o k)
   counted {j} {k} h = go (every within (record { value = n; from = 1; to = 8 } ∷ [])) refl
     where
@@ -48,47 +50,24 @@ module _ {A : Type 0} (f : Format) (fits : Bool) (n : ℕ) (lent : ℕ → List 
       go true e = ap (λ (i : ℕ). guarded f (line fits n [] (lent i) stale (inputs i) []) (o i)) (h (states-le n [] e))
       go false e = unsized f _ _ (o j) (o k) refl e e
 
-module _ (f : Format) (fits : Bool) (n : ℕ) (lent : ℕ → List Lent) (stale : Bool) (inputs : ℕ → List Float) where
+module _ (f : Format) (fits : Bool) (n : ℕ) (lent : ℕ → List Lent) (stale : Bool) (inputs : ℕ → List Input) where
   pub counted-first : {j k : ℕ} → (n ≤ 8 → j ≡ k) → firstRefusal f (line fits n [] (lent j) stale (inputs j) []) ≡ firstRefusal f (line fits n [] (lent k) stale (inputs k) [])
   unfolding firstRefusal
   counted-first h = ap refusal (counted f fits n lent stale inputs (λ (i : ℕ). nothing) h)
 
 -- a call that takes in the first k numbers of one slice
-pub slice-first : (f : Format) (v : List Float) {r n j k : ℕ} {b fits : Bool} → r ≡ firstRefusal f (line b n [] (lend v j) false (take j v) []) → b ≡ fits → (n ≤ 8 → j ≡ k) → r ≡ firstRefusal f (line fits n [] (lend v k) false (take k v) [])
-slice-first f v {n = n} {j = j} {fits = fits} e d h =
-    e ∙ ap (λ (b : Bool). firstRefusal f (line b n [] (lend v j) false (take j v) [])) d ∙ counted-first f fits n (λ (i : ℕ). lend v i) false (λ (i : ℕ). take i v) h
+pub slice-first : (f : Format) (s : Slice) (v : List Float) {r : Verdict} {n j k : ℕ} {b fits : Bool} → r ≡ firstRefusal f (line b n [] (lend v j) false (input s (take j v)) []) → b ≡ fits → (n ≤ 8 → j ≡ k) → r ≡ firstRefusal f (line fits n [] (lend v k) false (input s (take k v)) [])
+slice-first f s v {n = n} {j = j} {fits = fits} e d h =
+    e ∙ ap (λ (b : Bool). firstRefusal f (line b n [] (lend v j) false (input s (take j v)) [])) d ∙ counted-first f fits n (λ (i : ℕ). lend v i) false (λ (i : ℕ). input s (take i v)) h
 
 -- the same of a matrix of n·n numbers, counted by `square`: what is asked, that it is there, and what is made of it
-module _ (f : Format) (v : List Float) (n : ℕ) {k : ℕ} (e : k ≡ cond (leb n 8) (n * n) 0) {fits : Bool} where
-  pub matrix-first : {r : ℕ} {b : Bool} → r ≡ firstRefusal f (line b n [] (lend v k) false (take k v) []) → b ≡ fits → r ≡ firstRefusal f (line fits n [] (lend v (n * n)) false (take (n * n) v) [])
-  matrix-first d h = slice-first f v d h (λ g. e ∙ within-8 n (n * n) g)
+module _ (f : Format) (s : Slice) (v : List Float) (n : ℕ) {k : ℕ} (e : k ≡ cond (leb n 8) (n * n) 0) {fits : Bool} where
+  pub matrix-first : {r : Verdict} {b : Bool} → r ≡ firstRefusal f (line b n [] (lend v k) false (input s (take k v)) []) → b ≡ fits → r ≡ firstRefusal f (line fits n [] (lend v (n * n)) false (input s (take (n * n) v)) [])
+  matrix-first d h = slice-first f s v d h (λ g. e ∙ within-8 n (n * n) g)
 
-  module _ (p : Passed f (line fits n [] (lend v (n * n)) false (take (n * n) v) [])) where
+  module _ (p : Passed f (line fits n [] (lend v (n * n)) false (input s (take (n * n) v)) [])) where
     pub matrix-in : (k ≤ length v) × (k ≤ 64)
     matrix-in = let h = sized-le f p in omega (arith, e ∙ within-8 n (n * n) h, square-le n h, long-le f p)
 
     pub matrix-is : {m : List Float} → m ≡ front k v (zeros 64) → m ≡ front (n * n) v (zeros 64)
     matrix-is d = d ∙ ap (λ (j : ℕ). front j v (zeros 64)) (e ∙ within-8 n (n * n) (sized-le f p))
-
--- ---- numbers that come in beside those of three slices
-
-module _ (a b c d : List Float) where
-  pub finite-last : (allFinite (a ++ (b ++ c)) && allFinite d) ≡ allFinite (a ++ (b ++ (c ++ d)))
-  finite-last = sym (all-append (a ++ (b ++ c)) d) ∙ ap allFinite (append-assoc a (b ++ c) d ∙ ap (λ (l : List Float). a ++ l) (append-assoc b c d))
-
-  pub third-finite : allFinite (a ++ (b ++ (d ++ c))) ≡ true → allFinite d ≡ true
-  third-finite e =
-      let f = and-right (allFinite a) (allFinite (b ++ (d ++ c))) (sym (all-append a (b ++ (d ++ c))) ∙ e) in
-      let g = and-right (allFinite b) (allFinite (d ++ c)) (sym (all-append b (d ++ c)) ∙ f) in
-      and-left (allFinite d) (allFinite c) (sym (all-append d c) ∙ g)
-
-  pub finite-third : (allFinite (a ++ (b ++ c)) && allFinite d) ≡ allFinite (a ++ (b ++ (d ++ c)))
-  finite-third = rw (all-append a (b ++ c), all-append b c, all-append a (b ++ (d ++ c)), all-append b (d ++ c), all-append d c) (third (allFinite a) (allFinite b) (allFinite c) (allFinite d))
-    where
-      third : (x y z t : Bool) → ((x && (y && z)) && t) ≡ (x && (y && (t && z)))
-      third true true true true = refl
-      third true true true false = refl
-      third true true false true = refl
-      third true true false false = refl
-      third true false z t = refl
-      third false y z t = refl

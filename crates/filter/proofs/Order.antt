@@ -1,63 +1,90 @@
 -- The order of refusals: tests as the code makes them give the first refusal of what a call asks; where it is 0 every test has passed and the steps decide, and else it refuses. Assumes nothing.
-use Prim.Native.Nat.{ℕ}
 use native.Mathlib.Omega.{arith}
-use mathlib.Core.Path.{_≡_, refl, ap, _∙_}
+use mathlib.Core.Path.{_≡_, refl, sym, ap, _∙_}
 use mathlib.Core.Bool.{Bool, true, false}
 use mathlib.Core.List.{[]}
 use lib.Ieee.{Format}
-use Rattle.floats.specs.Refusal.{Refusal, SIZE, SHORT, STAGE, STALE, NUMBER, KIND, PARAM, number, Outcome, refused, accepted, refusal}
+use Rattle.floats.specs.declared.Verdict.{Verdict}
+use Rattle.floats.specs.Refusal.{Refusal, SIZE, SHORT, STAGE, STALE, KIND, PARAM, verdict, taken, Outcome, refused, accepted, refusal, unless, onward, nothing}
+use Rattle.floats.specs.Search.{searched}
+use Rattle.floats.proofs.Refusals.{number-above}
+use Rattle.floats.proofs.Search.{found-nothing}
 use Rattle.angles.specs.Kinds.{isPlain}
-use Rattle.floats.specs.Numbers.{allFinite}
-use Rattle.filter.specs.Asked.{Asks, within, long, fit, every, inOrder, guarded, nothing, firstRefusal}
+use Rattle.filter.specs.Asked.{Asks, within, long, fit, every, inOrder, guarded, firstRefusal}
 
--- ---- over any seven tests
+-- ---- over any six tests and any search
 
-pub same-number : (a₁ a₂ a₃ a₄ a₅ a₆ a₇ b₁ b₂ b₃ b₄ b₅ b₆ b₇ : Bool) → a₁ ≡ b₁ → a₂ ≡ b₂ → (b₂ ≡ true → a₃ ≡ b₃) → a₄ ≡ b₄ → (b₂ ≡ true → a₅ ≡ b₅) → a₆ ≡ b₆ → (b₂ ≡ true → b₅ ≡ true → a₇ ≡ b₇) → refusal (inOrder a₁ a₂ a₃ a₄ a₅ a₆ a₇ nothing) ≡ refusal (inOrder b₁ b₂ b₃ b₄ b₅ b₆ b₇ nothing)
+pub same-number : (a₁ a₂ a₃ a₄ : Bool) (a₅ : Outcome Bool) (a₆ a₇ b₁ b₂ b₃ b₄ : Bool) (b₅ : Outcome Bool) (b₆ b₇ : Bool) → a₁ ≡ b₁ → a₂ ≡ b₂ → (b₂ ≡ true → a₃ ≡ b₃) → a₄ ≡ b₄ → (b₂ ≡ true → a₅ ≡ b₅) → a₆ ≡ b₆ → (b₂ ≡ true → a₇ ≡ b₇) → refusal (inOrder a₁ a₂ a₃ a₄ a₅ a₆ a₇ nothing) ≡ refusal (inOrder b₁ b₂ b₃ b₄ b₅ b₆ b₇ nothing)
 unfolding inOrder
 same-number a₁ a₂ a₃ a₄ a₅ a₆ a₇ false b₂ b₃ b₄ b₅ b₆ b₇ e₁ e₂ e₃ e₄ e₅ e₆ e₇ = rw e₁
 same-number a₁ a₂ a₃ a₄ a₅ a₆ a₇ true false b₃ b₄ b₅ b₆ b₇ e₁ e₂ e₃ e₄ e₅ e₆ e₇ = rw (e₁, e₂)
-same-number a₁ a₂ a₃ a₄ a₅ a₆ a₇ true true b₃ b₄ false b₆ b₇ e₁ e₂ e₃ e₄ e₅ e₆ e₇ = rw (e₁, e₂, e₃ refl, e₄, e₅ refl)
-same-number a₁ a₂ a₃ a₄ a₅ a₆ a₇ true true b₃ b₄ true b₆ b₇ e₁ e₂ e₃ e₄ e₅ e₆ e₇ = rw (e₁, e₂, e₃ refl, e₄, e₅ refl, e₆, e₇ refl refl)
+same-number a₁ a₂ a₃ a₄ a₅ a₆ a₇ true true b₃ b₄ b₅ b₆ b₇ e₁ e₂ e₃ e₄ e₅ e₆ e₇ = rw (e₁, e₂, e₃ refl, e₄, e₅ refl, e₆, e₇ refl)
 
-pub all-pass : (a₁ a₂ a₃ a₄ a₅ a₆ a₇ : Bool) → refusal (inOrder a₁ a₂ a₃ a₄ a₅ a₆ a₇ nothing) ≡ 0 → (a₁ ≡ true) × (a₂ ≡ true) × (a₃ ≡ true) × (a₄ ≡ false) × (a₅ ≡ true) × (a₆ ≡ true) × (a₇ ≡ true)
+pub all-pass : (a₁ a₂ a₃ a₄ : Bool) (a₅ : Outcome Bool) (a₆ a₇ : Bool) → refusal (inOrder a₁ a₂ a₃ a₄ a₅ a₆ a₇ nothing) .number ≡ 0 → (a₁ ≡ true) × (a₂ ≡ true) × (a₃ ≡ true) × (a₄ ≡ false) × (refusal a₅ .number ≡ 0) × (a₆ ≡ true) × (a₇ ≡ true)
 unfolding inOrder
-all-pass true true true false true true true h = (refl, refl, refl, refl, refl, refl, refl)
+all-pass true true true false (accepted t) true true h = (refl, refl, refl, refl, refl, refl, refl)
 all-pass false a₂ a₃ a₄ a₅ a₆ a₇ h = absurd (omega arith)
 all-pass true false a₃ a₄ a₅ a₆ a₇ h = absurd (omega arith)
 all-pass true true false a₄ a₅ a₆ a₇ h = absurd (omega arith)
 all-pass true true true true a₅ a₆ a₇ h = absurd (omega arith)
-all-pass true true true false false a₆ a₇ h = absurd (omega arith)
-all-pass true true true false true false a₇ h = absurd (omega arith)
-all-pass true true true false true true false h = absurd (omega arith)
+all-pass true true true false (refused r) a₆ a₇ h = absurd (omega (arith, number-above r))
+all-pass true true true false (accepted t) false a₇ h = absurd (omega arith)
+all-pass true true true false (accepted t) true false h = absurd (omega arith)
 
-pub one-fails : {A : Type 0} (a₁ a₂ a₃ a₄ a₅ a₆ a₇ : Bool) (o : Outcome A) → (refusal (inOrder a₁ a₂ a₃ a₄ a₅ a₆ a₇ nothing) ≡ 0 → ⊥) → (r : Refusal) × (inOrder a₁ a₂ a₃ a₄ a₅ a₆ a₇ o ≡ refused r) × (number r ≡ refusal (inOrder a₁ a₂ a₃ a₄ a₅ a₆ a₇ nothing))
+pub one-fails : {A : Type 0} (a₁ a₂ a₃ a₄ : Bool) (a₅ : Outcome Bool) (a₆ a₇ : Bool) (o : Outcome A) → (refusal (inOrder a₁ a₂ a₃ a₄ a₅ a₆ a₇ nothing) .number ≡ 0 → ⊥) → (r : Refusal) × (inOrder a₁ a₂ a₃ a₄ a₅ a₆ a₇ o ≡ refused r) × (verdict r ≡ refusal (inOrder a₁ a₂ a₃ a₄ a₅ a₆ a₇ nothing))
 unfolding inOrder
 one-fails false a₂ a₃ a₄ a₅ a₆ a₇ o h = (STAGE, refl, refl)
 one-fails true false a₃ a₄ a₅ a₆ a₇ o h = (SIZE, refl, refl)
 one-fails true true false a₄ a₅ a₆ a₇ o h = (SHORT, refl, refl)
 one-fails true true true true a₅ a₆ a₇ o h = (STALE, refl, refl)
-one-fails true true true false false a₆ a₇ o h = (NUMBER, refl, refl)
-one-fails true true true false true false a₇ o h = (KIND, refl, refl)
-one-fails true true true false true true false o h = (PARAM, refl, refl)
-one-fails true true true false true true true o h = absurd (h refl)
+one-fails true true true false (refused r) a₆ a₇ o h = (r, refl, refl)
+one-fails true true true false (accepted t) false a₇ o h = (KIND, refl, refl)
+one-fails true true true false (accepted t) true false o h = (PARAM, refl, refl)
+one-fails true true true false (accepted t) true true o h = absurd (h refl)
 
 -- what is made of two outcomes is alike where both are accepted and where both are refused
-pub alike : {A B C : Type 0} (g : Outcome A → C) (h : Outcome B → C) (x : A) (y : B) → g (accepted x) ≡ h (accepted y) → ((r : Refusal) → g (refused r) ≡ h (refused r)) → (a₁ a₂ a₃ a₄ a₅ a₆ a₇ : Bool) → g (inOrder a₁ a₂ a₃ a₄ a₅ a₆ a₇ (accepted x)) ≡ h (inOrder a₁ a₂ a₃ a₄ a₅ a₆ a₇ (accepted y))
+pub alike : {A B C : Type 0} (g : Outcome A → C) (h : Outcome B → C) (x : A) (y : B) → g (accepted x) ≡ h (accepted y) → ((r : Refusal) → g (refused r) ≡ h (refused r)) → (a₁ a₂ a₃ a₄ : Bool) (a₅ : Outcome Bool) (a₆ a₇ : Bool) → g (inOrder a₁ a₂ a₃ a₄ a₅ a₆ a₇ (accepted x)) ≡ h (inOrder a₁ a₂ a₃ a₄ a₅ a₆ a₇ (accepted y))
 unfolding inOrder
 alike g h x y e d false a₂ a₃ a₄ a₅ a₆ a₇ = d STAGE
 alike g h x y e d true false a₃ a₄ a₅ a₆ a₇ = d SIZE
 alike g h x y e d true true false a₄ a₅ a₆ a₇ = d SHORT
 alike g h x y e d true true true true a₅ a₆ a₇ = d STALE
-alike g h x y e d true true true false false a₆ a₇ = d NUMBER
-alike g h x y e d true true true false true false a₇ = d KIND
-alike g h x y e d true true true false true true false = d PARAM
-alike g h x y e d true true true false true true true = e
+alike g h x y e d true true true false (refused r) a₆ a₇ = d r
+alike g h x y e d true true true false (accepted t) false a₇ = d KIND
+alike g h x y e d true true true false (accepted t) true false = d PARAM
+alike g h x y e d true true true false (accepted t) true true = e
+
+-- what comes before the search, by itself: a refusal of it stays; past it one that the search has found stays, and past that the last two tests decide
+module _ {A : Type 0} (a₆ a₇ : Bool) (p : Outcome A) where
+  pub early-stays : (a₁ a₂ a₃ a₄ : Bool) (o : Outcome Bool) → (refusal (inOrder a₁ a₂ a₃ a₄ nothing true true nothing) .number ≡ 0 → ⊥) → refusal (inOrder a₁ a₂ a₃ a₄ nothing true true nothing) ≡ refusal (inOrder a₁ a₂ a₃ a₄ o a₆ a₇ p)
+  unfolding inOrder
+  early-stays false a₂ a₃ a₄ o h = refl
+  early-stays true false a₃ a₄ o h = refl
+  early-stays true true false a₄ o h = refl
+  early-stays true true true true o h = refl
+  early-stays true true true false o h = absurd (h refl)
+
+  early-passes : (a₁ a₂ a₃ a₄ : Bool) (o : Outcome Bool) → refusal (inOrder a₁ a₂ a₃ a₄ nothing true true nothing) .number ≡ 0 → inOrder a₁ a₂ a₃ a₄ o a₆ a₇ p ≡ onward o (λ (t : Bool). unless a₆ KIND (unless a₇ PARAM p))
+  unfolding inOrder
+  early-passes true true true false o h = refl
+  early-passes false a₂ a₃ a₄ o h = absurd (omega arith)
+  early-passes true false a₃ a₄ o h = absurd (omega arith)
+  early-passes true true false a₄ o h = absurd (omega arith)
+  early-passes true true true true o h = absurd (omega arith)
+
+  pub found-stays : (a₁ a₂ a₃ a₄ : Bool) (o : Outcome Bool) → refusal (inOrder a₁ a₂ a₃ a₄ nothing true true nothing) .number ≡ 0 → (refusal o .number ≡ 0 → ⊥) → refusal o ≡ refusal (inOrder a₁ a₂ a₃ a₄ o a₆ a₇ p)
+  found-stays a₁ a₂ a₃ a₄ (refused r) h k = sym (ap refusal (early-passes a₁ a₂ a₃ a₄ (refused r) h))
+  found-stays a₁ a₂ a₃ a₄ (accepted t) h k = absurd (k refl)
+
+  pub found-passes : (a₁ a₂ a₃ a₄ : Bool) (o : Outcome Bool) → refusal (inOrder a₁ a₂ a₃ a₄ nothing true true nothing) .number ≡ 0 → refusal o .number ≡ 0 → inOrder a₁ a₂ a₃ a₄ o a₆ a₇ p ≡ unless a₆ KIND (unless a₇ PARAM p)
+  found-passes a₁ a₂ a₃ a₄ (refused r) h k = absurd (omega (arith, number-above r))
+  found-passes a₁ a₂ a₃ a₄ (accepted t) h k = early-passes a₁ a₂ a₃ a₄ (accepted t) h
 
 -- ---- over what a call asks
 
 -- no numbers come in
-pub none : allFinite [] ≡ true
-unfolding allFinite
+pub none : nothing ≡ searched []
+unfolding searched
 none = refl
 
 -- every test has passed
@@ -66,39 +93,44 @@ pub record Passed (f : Format) (a : Asks) : Type 0 where
   pub sized : every within (a .sizes) ≡ true
   pub long : every long (a .lent) ≡ true
   pub stale : a .stale ≡ false
-  pub finite : allFinite (a .inputs) ≡ true
+  pub found : searched (a .inputs) ≡ nothing
   pub plain : every isPlain (a .plain) ≡ true
   pub passing : every (fit f) (a .params) ≡ true
 
--- the number that the code's tests have given
+-- what the code's tests have told
 pub record Gives (f : Format) (a : Asks) : Type 0 where
-  pub number : ℕ
-  pub is : number ≡ firstRefusal f a
+  pub told : Verdict
+  pub is : told ≡ firstRefusal f a
 
 module _ (f : Format) (a : Asks) where
-  -- the tests as the code makes them: past the sizes they need only be right where those pass, and that for 6 where 5 passes too
-  pub tested : {fits sized long' stale finite plain passing : Bool} {r : ℕ} → r ≡ refusal (inOrder fits sized long' stale finite plain passing nothing) → fits ≡ a .fits → sized ≡ every within (a .sizes) → (every within (a .sizes) ≡ true → long' ≡ every long (a .lent)) → stale ≡ a .stale → (every within (a .sizes) ≡ true → finite ≡ allFinite (a .inputs)) → plain ≡ every isPlain (a .plain) → (every within (a .sizes) ≡ true → allFinite (a .inputs) ≡ true → passing ≡ every (fit f) (a .params)) → r ≡ firstRefusal f a
+  -- the tests as the code makes them, and what its search o has found: past the sizes they need only be right where those pass
+  pub tested : {fits sized long' stale : Bool} (o : Outcome Bool) {plain pass : Bool} {r : Verdict} → r ≡ refusal (inOrder fits sized long' stale o plain pass nothing) → fits ≡ a .fits → sized ≡ every within (a .sizes) → (every within (a .sizes) ≡ true → long' ≡ every long (a .lent)) → stale ≡ a .stale → (every within (a .sizes) ≡ true → o ≡ searched (a .inputs)) → plain ≡ every isPlain (a .plain) → (every within (a .sizes) ≡ true → pass ≡ every (fit f) (a .params)) → r ≡ firstRefusal f a
   unfolding firstRefusal
-  tested {fits} {sized} {long'} {stale} {finite} {plain} {passing} e e₁ e₂ e₃ e₄ e₅ e₆ e₇ = e ∙ same-number fits sized long' stale finite plain passing (a .fits) (every within (a .sizes)) (every long (a .lent)) (a .stale) (allFinite (a .inputs)) (every isPlain (a .plain)) (every (fit f) (a .params)) e₁ e₂ e₃ e₄ e₅ e₆ e₇
+  tested {fits} {sized} {long'} {stale} o {plain} {pass} e e₁ e₂ e₃ e₄ e₅ e₆ e₇ = e ∙ same-number fits sized long' stale o plain pass (a .fits) (every within (a .sizes)) (every long (a .lent)) (a .stale) (searched (a .inputs)) (every isPlain (a .plain)) (every (fit f) (a .params)) e₁ e₂ e₃ e₄ e₅ e₆ e₇
 
-  pub passed : firstRefusal f a ≡ 0 → Passed f a
+  pub passed : firstRefusal f a .number ≡ 0 → Passed f a
   unfolding firstRefusal
   passed e =
-      let t = all-pass (a .fits) (every within (a .sizes)) (every long (a .lent)) (a .stale) (allFinite (a .inputs)) (every isPlain (a .plain)) (every (fit f) (a .params)) e in
-      record { fits = t .0; sized = t .1; long = t .2; stale = t .3; finite = t .4; plain = t .5; passing = t .6 }
+      let t = all-pass (a .fits) (every within (a .sizes)) (every long (a .lent)) (a .stale) (searched (a .inputs)) (every isPlain (a .plain)) (every (fit f) (a .params)) e in
+      record { fits = t .0; sized = t .1; long = t .2; stale = t .3; found = found-nothing (a .inputs) (t .4); plain = t .5; passing = t .6 }
 
   module _ {A : Type 0} (o : Outcome A) where
-    pub goes-on : firstRefusal f a ≡ 0 → guarded f a o ≡ o
+    pub goes-on : firstRefusal f a .number ≡ 0 → guarded f a o ≡ o
     unfolding guarded
-    goes-on e = let t = passed e in rw (t .fits, t .sized, t .long, t .stale, t .finite, t .plain, t .passing)
+    goes-on e = let t = passed e in rw (t .fits, t .sized, t .long, t .stale, t .found, t .plain, t .passing)
 
-    pub refuses : (firstRefusal f a ≡ 0 → ⊥) → (r : Refusal) × (guarded f a o ≡ refused r) × (number r ≡ firstRefusal f a)
+    pub refuses : (firstRefusal f a .number ≡ 0 → ⊥) → (r : Refusal) × (guarded f a o ≡ refused r) × (verdict r ≡ firstRefusal f a)
     unfolding firstRefusal
-    refuses h = one-fails (a .fits) (every within (a .sizes)) (every long (a .lent)) (a .stale) (allFinite (a .inputs)) (every isPlain (a .plain)) (every (fit f) (a .params)) o h
+    refuses h = one-fails (a .fits) (every within (a .sizes)) (every long (a .lent)) (a .stale) (searched (a .inputs)) (every isPlain (a .plain)) (every (fit f) (a .params)) o h
+
+  -- where the number is 0 so is the place
+  pub none-told : firstRefusal f a .number ≡ 0 → firstRefusal f a ≡ taken
+  unfolding firstRefusal
+  none-told e = ap refusal (goes-on nothing e)
 
   pub both-ways : {A B C : Type 0} (g : Outcome A → C) (h : Outcome B → C) (x : A) (y : B) → g (accepted x) ≡ h (accepted y) → ((r : Refusal) → g (refused r) ≡ h (refused r)) → g (guarded f a (accepted x)) ≡ h (guarded f a (accepted y))
   unfolding guarded
-  both-ways g h x y e d = alike g h x y e d (a .fits) (every within (a .sizes)) (every long (a .lent)) (a .stale) (allFinite (a .inputs)) (every isPlain (a .plain)) (every (fit f) (a .params))
+  both-ways g h x y e d = alike g h x y e d (a .fits) (every within (a .sizes)) (every long (a .lent)) (a .stale) (searched (a .inputs)) (every isPlain (a .plain)) (every (fit f) (a .params))
 
   pub number-given : {A : Type 0} (x : A) → refusal (guarded f a (accepted x)) ≡ firstRefusal f a
   unfolding firstRefusal

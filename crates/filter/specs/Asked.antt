@@ -3,11 +3,12 @@ use Prim.Native.Nat.{ℕ}
 use mathlib.Core.Bool.{Bool, true, not, _&&_}
 use mathlib.Core.List.{List, [], _∷_}
 use lib.ListN.{length}
-use lib.Dec.{leb, eqb}
+use lib.Dec.{leb}
 use lib.Ieee.{Float, Format}
-use Rattle.floats.specs.Refusal.{SIZE, SHORT, STAGE, STALE, NUMBER, KIND, PARAM, Outcome, accepted, refusal, unless}
-use Rattle.floats.specs.Numbers.{allFinite}
-use Rattle.angles.specs.Kinds.{isPlain, passes, kindOf}
+use Rattle.floats.specs.declared.Verdict.{Verdict}
+use Rattle.floats.specs.Refusal.{SIZE, SHORT, STAGE, STALE, KIND, PARAM, Outcome, refusal, unless, onward, nothing}
+use Rattle.floats.specs.Search.{Input, searched}
+use Rattle.angles.specs.Kinds.{isPlain, passes}
 use Rattle.angles.specs.declared.Kind.{Kind}
 use Rattle.sigma.specs.Weights.{weightsPass}
 use Rattle.sigma.specs.declared.Params.{Params}
@@ -35,8 +36,8 @@ pub record Asks : Type 0 where
   pub lent : List Lent
   -- 4: whether points are read while stale
   pub stale : Bool
-  -- 5: the numbers that come in
-  pub inputs : List Float
+  -- 51 to 56: the slices whose numbers come in, in the order of the search
+  pub inputs : List Input
   -- 10: the kinds that have to be plain
   pub plain : List Kind
   pub params : List Param
@@ -52,39 +53,35 @@ within s = inRange (s .from) (s .to) (s .value)
 abbrev pub long : Lent → Bool
 long l = leb (l .needs) (length (l .slice))
 
+abbrev pub passing : Format → Kind → Bool
+passing f k = passes f (k .residual)
+
 abbrev pub fit : Format → Param → Bool
 fit f (by-params n p) = weightsPass f n p
-fit f (by-kind k) = passes f (k .residual)
-
--- whether the check of a kind gives another number than r
-abbrev pub clear : Format → ℕ → Kind → Bool
-clear f r k = not (eqb (refusal (kindOf f k)) r)
+fit f (by-kind k) = passing f k
 
 abbrev pub every : {A : Type 0} → (A → Bool) → List A → Bool
 every t [] = true
 every t (x ∷ l) = t x && every t l
 
--- ---- the order: 3, 1, 2, 4, 5, 10, 6, then what the steps o come to (7, 8 and 9 as they meet them)
+-- ---- the order: 3, 1, 2, 4, what the search comes to (51 to 56), 10, 6, then what the steps o come to (7, 8 and 9 as they meet them)
 
-unfoldable pub inOrder : {A : Type 0} → Bool → Bool → Bool → Bool → Bool → Bool → Bool → Outcome A → Outcome A
-inOrder fits sized long stale finite plain passing o =
+unfoldable pub inOrder : {A : Type 0} → Bool → Bool → Bool → Bool → Outcome Bool → Bool → Bool → Outcome A → Outcome A
+inOrder fits sized long stale found plain pass o =
     unless fits STAGE
     (unless sized SIZE
     (unless long SHORT
     (unless (not stale) STALE
-    (unless finite NUMBER
-    (unless plain KIND
-    (unless passing PARAM
+    (onward found (λ (t : Bool).
+    unless plain KIND
+    (unless pass PARAM
     o))))))
 
 unfoldable pub guarded : {A : Type 0} → Format → Asks → Outcome A → Outcome A
-unfolding inOrder
-guarded f a o = inOrder (a .fits) (every within (a .sizes)) (every long (a .lent)) (a .stale) (allFinite (a .inputs)) (every isPlain (a .plain)) (every (fit f) (a .params)) o
+unfolding inOrder searched
+guarded f a o = inOrder (a .fits) (every within (a .sizes)) (every long (a .lent)) (a .stale) (searched (a .inputs)) (every isPlain (a .plain)) (every (fit f) (a .params)) o
 
--- the number that these tests give by themselves, 0 where all pass
-abbrev pub nothing : Outcome Bool
-nothing = accepted true
-
-unfoldable pub firstRefusal : Format → Asks → ℕ
+-- what these tests say by themselves, 0 where all pass
+unfoldable pub firstRefusal : Format → Asks → Verdict
 unfolding guarded
 firstRefusal f a = refusal (guarded f a nothing)

@@ -4,10 +4,12 @@ use mathlib.Core.Bool.{Bool, true, false, not, cond}
 use mathlib.Core.List.{List, [], _∷_, _++_}
 use lib.ListN.{take, set}
 use lib.Ieee.{Float, Format}
+use Rattle.floats.specs.declared.Slice.the-variants.{State, Covariance, Noise, Points, Measurement, Lone}
 use Rattle.floats.specs.Refusal.{taken}
+use Rattle.floats.specs.Search.{Input, input}
 use Rattle.floats.specs.Numbers.{zeros}
 use Rattle.floats.specs.Fronts.{front}
-use Rattle.angles.specs.Kinds.{numbersIn}
+use Rattle.angles.specs.Kinds.{halfOf}
 use Rattle.angles.specs.declared.Kind.{Kind}
 use Rattle.matrix.specs.Results.{Plan, finish, mapped}
 use Rattle.sigma.specs.declared.Params.{Params}
@@ -22,7 +24,7 @@ use Rattle.filter.specs.declared.Stage.the-variants.{Shut, Predicting, C
 use Rattle.filter.specs.declared.Weighted.{Weighted}
 use Rattle.filter.specs.declared.Sheet.{Sheet}
 use Rattle.filter.specs.declared.Filter.{Filter}
-use Rattle.filter.specs.declared.measurement.Measurement.{Measurement}
+use Rattle.filter.specs.declared.measurement.Intake.{Intake}
 use Rattle.filter.specs.Asked.{Size, Lent, Param, by-params, by-kind, Asks}
 use Rattle.filter.specs.Filters.{isShut, isPredicting, isCorrecting, Writing, q-set, params-set, kinds-set, Setting, x-set, p-set, opened-prediction, opened-correction, Change, writes, sets, closes, abandons, reads}
 
@@ -77,7 +79,7 @@ fits (closing c) t = ownOpen c t
 fits abandon t = not (isShut t)
 fits (reading c) t = true
 
--- ---- what each call needs beside that and 1 to 8 states: sizes; lent slices with how much of each is needed; whether stale stops it; the numbers that come in; kinds that have to be plain; what has to pass 6
+-- ---- what each call needs beside that and 1 to 8 states: sizes; lent slices with how much of each is needed; whether stale stops it; the slices whose numbers come in, in the order of the search; kinds that have to be plain; what has to pass 6
 
 abbrev pub sized : ℕ → ℕ → ℕ → List Size
 sized v from to = record { value = v; from = from; to = to } ∷ []
@@ -85,9 +87,14 @@ sized v from to = record { value = v; from = from; to = to } ∷ []
 abbrev pub lend : List Float → ℕ → List Lent
 lend slice needs = record { slice = slice; needs = needs } ∷ []
 
-abbrev pub inKinds : List Kind → List Float
-inKinds [] = []
-inKinds (k ∷ ks) = numbersIn (k .residual) ++ inKinds ks
+-- the numbers that kinds bring in, each at its place
+abbrev pub halves : List Kind → List Float
+halves [] = []
+halves (k ∷ ks) = halfOf k ∷ halves ks
+
+-- those of the parameters
+abbrev pub valuesOf : Params → List Float
+valuesOf p = p .alpha ∷ p .beta ∷ p .kappa ∷ []
 
 abbrev pub asKinds : List Kind → List Param
 asKinds [] = []
@@ -97,12 +104,12 @@ pub record Needs : Type 0 where
   pub sizes : List Size
   pub lent : List Lent
   pub stale : Bool
-  pub inputs : List Float
+  pub inputs : List Input
   pub plain : List Kind
   pub params : List Param
 
 -- a line of the table of calls that asks no kind to be plain
-abbrev pub needing : List Size → List Lent → Bool → List Float → List Param → Needs
+abbrev pub needing : List Size → List Lent → Bool → List Input → List Param → Needs
 needing sizes lent stale inputs params = record { sizes = sizes; lent = lent; stale = stale; inputs = inputs; plain = []; params = params }
 
 -- the same, and that these kinds be plain
@@ -117,35 +124,39 @@ observedNumbers n m = (n + n + 1) * m
 abbrev pub lentMeasured : ℕ → ℕ → List Float → List Float → List Float → List Lent
 lentMeasured n m z r observed = lend z m ++ (lend r (m * m) ++ lend observed (observedNumbers n m))
 
+-- their numbers and the half-turns of the call's own kinds, in the order of the search: R, the observed points, z, half-turns
+abbrev pub inputsMeasured : ℕ → ℕ → List Float → List Float → List Float → List Float → List Input
+inputsMeasured n m z r observed turns = input Noise (take (m * m) r) ++ (input Points (take (observedNumbers n m) observed) ++ (input Measurement (take m z) ++ input Lone turns))
+
 -- the same as the steps take it: the front of each slice, +0 past it
-abbrev pub measurement : ℕ → ℕ → List Float → List Float → List Float → Measurement
+abbrev pub measurement : ℕ → ℕ → List Float → List Float → List Float → Intake
 measurement n m z r observed = record { refusal = taken; z = front m z (zeros 8); r = front (m * m) r (zeros 64); observed = front (observedNumbers n m) observed (zeros 136) }
 
 -- a change of the sheet goes by the sheet alone
 abbrev pub sheetNeeds : Sheet → SheetCall → Needs
-sheetNeeds s (set-q v) = needing [] (lend v (s .n * s .n)) false (take (s .n * s .n) v) []
-sheetNeeds s (set-params p) = needing [] [] false (p .alpha ∷ p .beta ∷ p .kappa ∷ []) (by-params (s .n) p ∷ [])
-sheetNeeds s (set-kind i k) = needing (sized i 0 (s .n - 1)) [] false (numbersIn (k .residual)) (by-kind k ∷ [])
+sheetNeeds s (set-q v) = needing [] (lend v (s .n * s .n)) false (input Noise (take (s .n * s .n) v)) []
+sheetNeeds s (set-params p) = needing [] [] false (input Lone (valuesOf p)) (by-params (s .n) p ∷ [])
+sheetNeeds s (set-kind i k) = needing (sized i 0 (s .n - 1)) [] false (input Lone (halfOf k ∷ [])) (by-kind k ∷ [])
 
 abbrev pub needs : Filter → Call → Needs
 needs s (writing c) = sheetNeeds (s .sheet) c
-needs s (setting (set-x v)) = needing [] (lend v (s .sheet .n)) false (take (s .sheet .n) v) []
-needs s (setting (set-p v)) = needing [] (lend v (s .sheet .n * s .sheet .n)) false (take (s .sheet .n * s .sheet .n) v) []
+needs s (setting (set-x v)) = needing [] (lend v (s .sheet .n)) false (input State (take (s .sheet .n) v)) []
+needs s (setting (set-p v)) = needing [] (lend v (s .sheet .n * s .sheet .n)) false (input Covariance (take (s .sheet .n * s .sheet .n) v)) []
 needs s (setting (open-prediction b)) = needing [] (lend b (pointNumbers (s .sheet .n))) false [] []
 needs s (setting (open-correction b)) = needing [] (lend b (pointNumbers (s .sheet .n))) false [] []
-needs s (closing (close-prediction v)) = needing [] (lend v (pointNumbers (s .sheet .n))) false (take (pointNumbers (s .sheet .n)) v) []
+needs s (closing (close-prediction v)) = needing [] (lend v (pointNumbers (s .sheet .n))) false (input Points (take (pointNumbers (s .sheet .n)) v)) []
 needs s (closing (close-correction m z r kinds observed)) =
     needing (sized m 1 4)
     (lentMeasured (s .sheet .n) m z r observed)
     false
-    (take m z ++ (take (m * m) r ++ (inKinds (take m kinds) ++ take (observedNumbers (s .sheet .n) m) observed)))
+    (inputsMeasured (s .sheet .n) m z r observed (halves (take m kinds)))
     (asKinds (take m kinds))
 needs s (closing (close-correction-flat m z r observed)) =
     needingPlain (take (s .sheet .n) (s .sheet .kinds))
     (needing (sized m 1 4)
     (lentMeasured (s .sheet .n) m z r observed)
     false
-    (take m z ++ (take (m * m) r ++ take (observedNumbers (s .sheet .n) m) observed))
+    (inputsMeasured (s .sheet .n) m z r observed [])
     [])
 needs s abandon = needing [] [] false [] []
 needs s (reading (read-x b)) = needing [] (lend b (s .sheet .n)) false [] []
@@ -159,7 +170,7 @@ needs s (reading read-stale) = needing [] [] false [] []
 abbrev pub asking : Bool → ℕ → Needs → Asks
 asking fits n a = record { fits = fits; sizes = record { value = n; from = 1; to = 8 } ∷ a .sizes; lent = a .lent; stale = a .stale; inputs = a .inputs; plain = a .plain; params = a .params }
 
-abbrev pub line : Bool → ℕ → List Size → List Lent → Bool → List Float → List Param → Asks
+abbrev pub line : Bool → ℕ → List Size → List Lent → Bool → List Input → List Param → Asks
 line fits n sizes lent stale inputs params = asking fits n (needing sizes lent stale inputs params)
 
 abbrev pub asks : Filter → Call → Asks

@@ -2,10 +2,13 @@
 use Prim.Native.Nat.{ℕ, _*_}
 use mathlib.Core.Bool.{true, false, cond}
 use mathlib.Core.List.{List, [], _∷_, _++_}
-use lib.Dec.{eqb, ltb}
+use lib.Dec.{eqb}
 use lib.ListN.{take, replicate}
 use lib.Ieee.{Float, Format}
-use Rattle.floats.specs.Refusal.{Outcome, accepted, refusal, or}
+use Rattle.floats.specs.declared.Slice.the-variants.{State, Covariance, Noise, Lone}
+use Rattle.floats.specs.declared.Verdict.{Verdict}
+use Rattle.floats.specs.Refusal.{earlier, Outcome, accepted, refusal, or}
+use Rattle.floats.specs.Search.{Input, input}
 use Rattle.floats.specs.Numbers.{plusZero, zeros}
 use Rattle.floats.specs.Fronts.{front}
 use Rattle.angles.specs.Kinds.{plain}
@@ -19,7 +22,7 @@ use Rattle.filter.specs.declared.new.NewSheet.{NewSheet}
 use Rattle.filter.specs.declared.new.NewTrack.{NewTrack}
 use Rattle.filter.specs.Asked.{Lent, by-params, Asks, guarded}
 use Rattle.filter.specs.Filters.{sheet, track, filter}
-use Rattle.filter.specs.Calls.{lend, line}
+use Rattle.filter.specs.Calls.{lend, valuesOf, line}
 
 -- all kinds plain
 abbrev pub freshSheet : ℕ → List Float → Params → Sheet
@@ -49,7 +52,7 @@ pub record Start : Type 0 where
 abbrev pub from : List Float → List Float → Start
 from x p = record { x = x; p = p }
 
--- the slices and the numbers that come in: each start's in turn, then those of the sheet
+-- what is lent, and what is searched: each start's x and P in turn, then Q and the parameters
 abbrev pub lentAt : ℕ → Start → List Lent
 lentAt n s = lend (s .x) n ++ lend (s .p) (n * n)
 
@@ -57,19 +60,19 @@ abbrev pub lentFor : ℕ → List Start → List Float → List Lent
 lentFor n [] q = lend q (n * n)
 lentFor n (s ∷ ss) q = lentAt n s ++ lentFor n ss q
 
-abbrev pub numbersAt : ℕ → Start → List Float
-numbersAt n s = take n (s .x) ++ take (n * n) (s .p)
+abbrev pub inputsAt : ℕ → Start → List Input
+inputsAt n s = input State (take n (s .x)) ++ input Covariance (take (n * n) (s .p))
 
-abbrev pub numbersFor : ℕ → List Start → List Float → Params → List Float
-numbersFor n [] q params = take (n * n) q ++ (params .alpha ∷ params .beta ∷ params .kappa ∷ [])
-numbersFor n (s ∷ ss) q params = numbersAt n s ++ numbersFor n ss q params
+abbrev pub inputsFor : ℕ → List Start → List Float → Params → List Input
+inputsFor n [] q params = input Noise (take (n * n) q) ++ input Lone (valuesOf params)
+inputsFor n (s ∷ ss) q params = inputsAt n s ++ inputsFor n ss q params
 
 -- of tracks of n states at these starts on one sheet; of one start alone
 abbrev pub newAsks : ℕ → List Start → List Float → Params → Asks
-newAsks n starts q params = line true n [] (lentFor n starts q) false (numbersFor n starts q params) (by-params n params ∷ [])
+newAsks n starts q params = line true n [] (lentFor n starts q) false (inputsFor n starts q params) (by-params n params ∷ [])
 
 abbrev pub startAsks : ℕ → Start → Asks
-startAsks n s = line true n [] (lentAt n s) false (numbersAt n s) []
+startAsks n s = line true n [] (lentAt n s) false (inputsAt n s) []
 
 -- ---- what is made
 
@@ -101,6 +104,6 @@ module _ (f : Format) (n : ℕ) where
   abbrev pub newAnswer : List Float → List Float → List Float → Params → Answer
   newAnswer x p q params = record { filter = or empty (newOf x p q params); refusal = refusal (newOf x p q params) }
 
--- of the numbers that two parts of a New give the one that comes first in the order (1, 2, 5, 6: that of the numbers); 0 where both are 0
-unfoldable pub sooner : ℕ → ℕ → ℕ
-sooner a b = cond (eqb a 0) b (cond (eqb b 0) a (cond (ltb b a) b a))
+-- what a New says of two of its parts, which have one n: a slice of the later that is too short comes before a bad number of the earlier, else the earlier part comes first
+unfoldable pub sooner : Verdict → Verdict → Verdict
+sooner a b = cond (eqb (b .number) 2) b (earlier a b)

@@ -5,6 +5,7 @@ use mathlib.Core.List.{List, []}
 use lib.ListN.{take, drop}
 use lib.Dec.{eqb}
 use lib.Ieee.{Float, Format}
+use Rattle.floats.specs.declared.Verdict.{Verdict}
 use Rattle.floats.specs.Refusal.{Outcome, accepted, refusal, or}
 use Rattle.sigma.specs.Draw.{pointNumbers}
 use Rattle.filter.specs.Asked.{Asks, guarded}
@@ -19,7 +20,7 @@ module _ (f : Format) (l : List Float) (n k : ℕ) where
   unfolding guarded
   pointAt = guarded f pointAsks (accepted (take n (drop (k * n) l)))
 
-  unfoldable pub pointRefusal : ℕ
+  unfoldable pub pointRefusal : Verdict
   unfolding pointAt
   pointRefusal = refusal pointAt
 
@@ -31,4 +32,4 @@ module _ (f : Format) (l : List Float) (n k : ℕ) where
   -- where the part begins: a block, and an offset in bytes, 8 for each number before it; of a refusal, where the list begins
   unfoldable pub pointPlace : ℕ × ℕ → ℕ × ℕ
   unfolding pointRefusal
-  pointPlace at = (at .0, cond (eqb pointRefusal 0) (k * n * 8 + at .1) (0 * 8 + at .1))
+  pointPlace at = (at .0, cond (eqb (pointRefusal .number) 0) (k * n * 8 + at .1) (0 * 8 + at .1))

@@ -1,11 +1,11 @@
 -- One step of a filter: every contract of a call cites it. A refused call changes nothing and hands out nothing. Definitions only.
-use Prim.Native.Nat.{ℕ}
 use mathlib.Core.Bool.{Bool, true, cond}
 use mathlib.Core.List.{List, []}
 use lib.Dec.{eqb}
 use lib.ListN.{getD}
 use lib.Ieee.{Float, Format}
-use Rattle.floats.specs.Refusal.{number, taken, Outcome, refused, accepted}
+use Rattle.floats.specs.declared.Verdict.{Verdict}
+use Rattle.floats.specs.Refusal.{verdict, taken, Outcome, refused, accepted}
 use Rattle.floats.specs.Numbers.{plusZero}
 use Rattle.matrix.specs.Results.{run}
 use Rattle.sigma.specs.declared.Params.{Params}
@@ -22,9 +22,9 @@ use Rattle.filter.specs.Calls.{Call, asks, Done, plan}
 abbrev pub outcome : Format → Filter → Call → Outcome Done
 outcome f s c = guarded f (asks s c) (run (plan f s c))
 
--- what a call tells: its number, the numbers that it hands out, which go to the front of the lent buffer, and a reading's stale mark
+-- what a call tells: its number and place, the numbers that it hands out, which go to the front of the lent buffer, and a reading's stale mark
 pub record Reply : Type 0 where
-  pub refusal : ℕ
+  pub refusal : Verdict
   pub given : List Float
   pub stale : Bool
 
@@ -33,7 +33,7 @@ pub record Stepped : Type 0 where
   pub reply : Reply
 
 abbrev pub stepped : Filter → Outcome Done → Stepped
-stepped s (refused r) = record { filter = s; reply = record { refusal = number r; given = []; stale = true } }
+stepped s (refused r) = record { filter = s; reply = record { refusal = verdict r; given = []; stale = true } }
 stepped s (accepted d) = record { filter = changed s (d .change); reply = record { refusal = taken; given = d .given; stale = d .stale } }
 
 unfoldable pub step : Format → Filter → Call → Stepped
@@ -48,9 +48,7 @@ answered t = record { filter = t .filter; refusal = t .reply .refusal }
 -- a close by what its steps have made: refused, or x and P set, with the points and the opened weights installed
 abbrev pub closedBy : Filter → List Float → Bool → Moments → Answer
 closedBy s points stale m =
-    cond (eqb (m .refusal) 0)
-    (record { filter = closedWith s points stale (m .x) (m .p); refusal = taken })
-    (record { filter = s; refusal = m .refusal })
+    record { filter = cond (eqb (m .refusal .number) 0) (closedWith s points stale (m .x) (m .p)) s; refusal = m .refusal }
 
 -- three numbers, or +0s where a reading is refused
 abbrev pub paramsOf : List Float → Params

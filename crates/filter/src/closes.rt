@@ -12,6 +12,7 @@ use crate::measurement;
 use crate::tests;
 use angles::Kind;
 use correction::flat;
+use floats::Slice;
 use sigma::Moments;
 use sigma::predict;
 use sigma::weights;
@@ -21,10 +22,11 @@ impl Filter {
     fn close(self, made: Moments, points: [f64; 136], stale: bool) -> Answer
         ensures { λ r. ⌜ r ≡ closedBy self points stale made ⌝ }
     {
-        if made.refusal != 0 {
+        let refusal = made.refusal;
+        if refusal.number != 0 {
             return Answer {
                 filter: self,
-                refusal: made.refusal,
+                refusal,
             };
         }
         let sheet = self.sheet;
@@ -43,7 +45,7 @@ impl Filter {
         };
         Answer {
             filter: Filter { sheet, track },
-            refusal: 0,
+            refusal,
         }
     }
 
@@ -56,8 +58,8 @@ impl Filter {
         let stage = track.stage;
         let predicting = tests::is_predicting(stage);
         let k = tests::point_numbers(n, n);
-        let refusal = tests::slice_refusal(predicting, n, k, points);
-        if refusal != 0 {
+        let refusal = tests::slice_refusal(predicting, n, k, Slice::Points, points);
+        if refusal.number != 0 {
             return Answer {
                 filter: self,
                 refusal,
@@ -88,23 +90,14 @@ impl Filter {
         let n = sheet.n;
         let stage = track.stage;
         let correcting = tests::is_correcting(stage);
-        let turns_finite = tests::no_kind_refused(m, kinds, 5);
-        let passing = tests::no_kind_refused(m, kinds, 6);
-        let lent = measurement::take_in(
-            correcting,
-            n,
-            m,
-            z,
-            r,
-            observed,
-            turns_finite,
-            true,
-            passing,
-        );
-        if lent.refusal != 0 {
+        let turns = tests::halves(kinds);
+        let passing = tests::kinds_pass(m, kinds);
+        let lent = measurement::take_in(correcting, n, m, z, r, observed, &turns, m, true, passing);
+        let refusal = lent.refusal;
+        if refusal.number != 0 {
             return Answer {
                 filter: self,
-                refusal: lent.refusal,
+                refusal,
             };
         }
         let z = lent.z;
@@ -145,11 +138,13 @@ impl Filter {
         let correcting = tests::is_correcting(stage);
         let kinds = sheet.kinds;
         let plain = tests::all_plain(n, kinds);
-        let lent = measurement::take_in(correcting, n, m, z, r, observed, true, plain, true);
-        if lent.refusal != 0 {
+        let turns = [0.0; 4];
+        let lent = measurement::take_in(correcting, n, m, z, r, observed, &turns, 0, plain, true);
+        let refusal = lent.refusal;
+        if refusal.number != 0 {
             return Answer {
                 filter: self,
-                refusal: lent.refusal,
+                refusal,
             };
         }
         let z = lent.z;

@@ -1,5 +1,6 @@
 // The filter and its calls.
 use angles::Kind;
+use floats::Verdict;
 use sigma::Params;
 
 pub mod closes;
@@ -52,20 +53,20 @@ pub struct Filter {
     pub track: Track,
 }
 
-// The next filter with the answer number.
+// The next filter with the answer's number and place.
 pub struct Answer {
     pub filter: Filter,
-    pub refusal: u8,
+    pub refusal: Verdict,
 }
 
 // What a reading of the parameters answers.
 pub struct ParamsRead {
-    pub refusal: u8,
+    pub refusal: Verdict,
     pub params: Params,
 }
 
 // What a reading of the stale mark answers.
 pub struct StaleRead {
-    pub refusal: u8,
+    pub refusal: Verdict,
     pub stale: bool,
 }

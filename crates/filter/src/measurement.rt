@@ -1,22 +1,25 @@
 // The measurement that a close of a correction is lent: tested, and taken into arrays.
 ghost use mathlib.Core.Path.{_≡_};
+ghost use lib.ListN.{take};
 ghost use Rattle.filter.specs.Measurement.{takenIn, unmeasured, measured};
 use crate::fronts;
 use crate::tests;
+use floats::Slice;
+use floats::Verdict;
 
-// The number, and z, R and the observed points, +0 where it is refused.
-pub struct Measurement {
-    pub refusal: u8,
+// Number and place, and z, R and the observed points, +0 where it is refused.
+pub struct Intake {
+    pub refusal: Verdict,
     pub z: [f64; 8],
     pub r: [f64; 64],
     pub observed: [f64; 136],
 }
 
 // A refused one.
-fn refuse(refusal: u8) -> Measurement
+fn refuse(refusal: Verdict) -> Intake
     ensures { λ q. ⌜ q ≡ unmeasured refusal ⌝ }
 {
-    Measurement {
+    Intake {
         refusal,
         z: [0.0; 8],
         r: [0.0; 64],
@@ -24,7 +27,7 @@ fn refuse(refusal: u8) -> Measurement
     }
 }
 
-// m and the slices are tested here; what else the close has tested takes its place among them, in the order of the refusals: whether it fits (3), whether its half-turns are finite (turns: 5), whether the kinds that have to be plain are (10), whether its kinds pass (6).
+// m and the slices are tested here; what else the close has tested takes its place among them, in the order of the refusals: whether it fits (3), whether the kinds that have to be plain are (10), whether its kinds pass (6). R, the observed points, z and then the first t half-turns are searched (51 to 56).
 pub fn take_in(
     fits: bool,
     n: usize,
@@ -32,11 +35,12 @@ pub fn take_in(
     z: &[f64],
     r: &[f64],
     observed: &[f64],
-    turns: bool,
+    turns: &[f64; 4],
+    t: usize,
     plain: bool,
     passing: bool,
-) -> Measurement
-    ensures { λ q. ⌜ q ≡ measured (takenIn (record { fits = fits; n = n; m = m; z = now (z .entry); r = now (r .entry); observed = now (observed .entry); turns = turns; plain = plain; passing = passing })) ⌝ }
+) -> Intake
+    ensures { λ q. ⌜ q ≡ measured (takenIn (record { fits = fits; n = n; m = m; z = now (z .entry); r = now (r .entry); observed = now (observed .entry); turns = take t (now (turns .entry)); plain = plain; passing = passing })) ⌝ }
 {
     let states = tests::is_sized(n);
     let measurements = tests::in_range(1, 4, m);
@@ -44,14 +48,16 @@ pub fn take_in(
     let mm = tests::square(m);
     let k = tests::point_numbers(n, m);
     let long = tests::all_long(z, m, r, mm, observed, k);
-    let slices_finite = tests::fronts_finite(z, m, r, mm, observed, k);
-    let finite = tests::both(slices_finite, turns);
-    let refusal = tests::first_refusal(fits, sized, long, false, finite, plain, passing);
-    if refusal != 0 {
+    let in_noise = floats::first_bad(Slice::Noise, r, mm);
+    let in_points = floats::next_bad(in_noise, Slice::Points, observed, k);
+    let in_measurement = floats::next_bad(in_points, Slice::Measurement, z, m);
+    let found = floats::next_bad(in_measurement, Slice::Lone, turns, t);
+    let refusal = tests::first_refusal(fits, sized, long, false, found, plain, passing);
+    if refusal.number != 0 {
         return refuse(refusal);
     }
-    Measurement {
-        refusal: 0,
+    Intake {
+        refusal,
         z: fronts::vector(z, m),
         r: fronts::matrix(r, mm),
         observed: fronts::points(observed, k),

@@ -11,17 +11,19 @@ use crate::fronts;
 use crate::tests;
 use angles::Kind;
 use angles::Residual;
+use floats::Slice;
+use floats::Verdict;
 use sigma::Params;
 
-// A new sheet with the answer number; refused, the empty filter's.
+// A new sheet with number and place; refused, the empty filter's.
 pub struct NewSheet {
-    pub refusal: u8,
+    pub refusal: Verdict,
     pub sheet: Sheet,
 }
 
-// A new track with the answer number; refused, the empty filter's.
+// A new track with number and place; refused, the empty filter's.
 pub struct NewTrack {
-    pub refusal: u8,
+    pub refusal: Verdict,
     pub track: Track,
 }
 
@@ -80,18 +82,18 @@ impl Sheet {
     {
         let k = tests::square(n);
         let sized = tests::is_sized(n);
-        let q_finite = floats::all_finite(q, k);
-        let params_finite = tests::params_finite(params);
-        let finite = tests::both(q_finite, params_finite);
+        let values = tests::values(params);
+        let in_noise = floats::first_bad(Slice::Noise, q, k);
+        let found = floats::next_bad(in_noise, Slice::Lone, &values, 3);
         let passing = tests::params_pass(n, params);
-        let refusal = tests::first_refusal(true, sized, k <= q.len(), false, finite, true, passing);
-        if refusal != 0 {
+        let refusal = tests::first_refusal(true, sized, k <= q.len(), false, found, true, passing);
+        if refusal.number != 0 {
             let sheet = empty_sheet();
             return NewSheet { refusal, sheet };
         }
         let q = fronts::matrix(q, k);
         let sheet = fresh_sheet(n, q, params);
-        NewSheet { refusal: 0, sheet }
+        NewSheet { refusal, sheet }
     }
 }
 
@@ -102,35 +104,28 @@ impl Track {
         let k = tests::square(n);
         let sized = tests::is_sized(n);
         let long = tests::both(n <= x.len(), k <= p.len());
-        let x_finite = floats::all_finite(x, n);
-        let p_finite = floats::all_finite(p, k);
-        let finite = tests::both(x_finite, p_finite);
-        let refusal = tests::first_refusal(true, sized, long, false, finite, true, true);
-        if refusal != 0 {
+        let in_state = floats::first_bad(Slice::State, x, n);
+        let found = floats::next_bad(in_state, Slice::Covariance, p, k);
+        let refusal = tests::first_refusal(true, sized, long, false, found, true, true);
+        if refusal.number != 0 {
             let track = empty_track();
             return NewTrack { refusal, track };
         }
         let x = fronts::vector(x, n);
         let p = fronts::matrix(p, k);
         let track = fresh_track(x, p);
-        NewTrack { refusal: 0, track }
+        NewTrack { refusal, track }
     }
 }
 
-// Of the numbers that two parts of a New give the one that comes first in the order 1, 2, 5, 6; 0 where both are 0.
-pub fn sooner(a: u8, b: u8) -> u8
+// What a New says of two of its parts, which have one n: a slice of the later that is too short (2) comes before a bad number of the earlier, else the earlier part comes first.
+pub fn sooner(a: Verdict, b: Verdict) -> Verdict
     ensures { λ r. ⌜ r ≡ sooner a b ⌝ }
 {
-    if a == 0 {
+    if b.number == 2 {
         return b;
     }
-    if b == 0 {
-        return a;
-    }
-    if b < a {
-        return b;
-    }
-    a
+    floats::earlier(a, b)
 }
 
 impl Filter {
@@ -139,8 +134,10 @@ impl Filter {
     {
         let a = Track::new(n, x, p);
         let b = Sheet::new(n, q, params);
-        let refusal = sooner(a.refusal, b.refusal);
-        if refusal != 0 {
+        let of_track = a.refusal;
+        let of_sheet = b.refusal;
+        let refusal = sooner(of_track, of_sheet);
+        if refusal.number != 0 {
             let sheet = empty_sheet();
             let track = empty_track();
             return Answer {
@@ -152,7 +149,7 @@ impl Filter {
         let track = a.track;
         Answer {
             filter: Filter { sheet, track },
-            refusal: 0,
+            refusal,
         }
     }
 }

@@ -4,6 +4,7 @@ ghost use mathlib.Core.Bool.{false};
 ghost use Prim.Native.Nat.{_≤_};
 ghost use lib.ListN.{length, take};
 ghost use lib.Ieee.{binary64};
+ghost use Rattle.floats.specs.Refusal.{taken};
 ghost use Rattle.floats.specs.Fronts.{over};
 ghost use Rattle.sigma.specs.Draw.{pointNumbers};
 ghost use Rattle.filter.specs.Filters.{filter, isShut, withDrawn};
@@ -23,7 +24,7 @@ impl Filter {
     // The call is open, and its points are written out.
     fn opened(self, stage: Stage, d: Weighted, out: &mut [f64]) -> Answer
         requires { ⌜ (self .sheet .n ≤ 8) × (pointNumbers (self .sheet .n) ≤ length (now out)) ⌝ }
-        ensures { λ r. ⌜ r ≡ record { filter = filter (self .sheet) (withDrawn (self .track) stage d); refusal = 0 } ⌝ }
+        ensures { λ r. ⌜ r ≡ record { filter = filter (self .sheet) (withDrawn (self .track) stage d); refusal = taken } ⌝ }
         ensures { λ r. ⌜ now (out .exit) ≡ over (take (pointNumbers (self .sheet .n)) (d .points)) (now (out .entry)) ⌝ }
     {
         let n = self.sheet.n;
@@ -35,7 +36,7 @@ impl Filter {
         let track = drawn::with_drawn(before, stage, d);
         Answer {
             filter: Filter { sheet, track },
-            refusal: 0,
+            refusal: floats::placeless(0),
         }
     }
 
@@ -52,8 +53,8 @@ impl Filter {
         let shut = tests::is_shut(before);
         let sized = tests::is_sized(n);
         let k = tests::point_numbers(n, n);
-        let refusal = tests::first_refusal(shut, sized, k <= out.len(), false, true, true, true);
-        if refusal != 0 {
+        let refusal = tests::early_refusal(shut, sized, k <= out.len(), false);
+        if refusal.number != 0 {
             return Answer {
                 filter: self,
                 refusal,
@@ -71,10 +72,11 @@ impl Filter {
         let params = sheet.params;
         let scale = weights::scale(n, params);
         let d = draw::generate_sigma_points(n, &x, &p, scale);
-        if d.refusal != 0 {
+        let refusal = d.refusal;
+        if refusal.number != 0 {
             return Answer {
                 filter: self,
-                refusal: d.refusal,
+                refusal,
             };
         }
         let weights = weights::weights(n, params);
@@ -105,8 +107,8 @@ impl Filter {
         let stage = before.stage;
         let shut = tests::is_shut(stage);
         let sized = tests::is_sized(n);
-        let refusal = tests::first_refusal(!shut, sized, true, false, true, true, true);
-        if refusal != 0 {
+        let refusal = tests::early_refusal(!shut, sized, true, false);
+        if refusal.number != 0 {
             return Answer {
                 filter: self,
                 refusal,
@@ -115,7 +117,7 @@ impl Filter {
         let track = drawn::shut(before);
         Answer {
             filter: Filter { sheet, track },
-            refusal: 0,
+            refusal,
         }
     }
 }

@@ -15,25 +15,26 @@ use crate::ParamsRead;
 use crate::StaleRead;
 use crate::fronts;
 use crate::tests;
+use floats::Verdict;
 use sigma::Params;
 
 // A reading of the first k numbers of s, stopped where they are stale.
-fn read(n: usize, k: usize, stale: bool, s: &[f64], out: &mut [f64]) -> u8
+fn read(n: usize, k: usize, stale: bool, s: &[f64], out: &mut [f64]) -> Verdict
     requires { ⌜ (n ≤ 8 → k ≤ length (now s)) ⌝ }
     ensures { λ r. ⌜ r ≡ firstRefusal binary64 (line true n [] (lend (now (out .entry)) k) stale [] []) ⌝ }
     ensures { λ r. ⌜ now (out .exit) ≡ over (or [] (guarded binary64 (line true n [] (lend (now (out .entry)) k) stale [] []) (accepted (take k (now (s .entry)))))) (now (out .entry)) ⌝ }
 {
     let sized = tests::is_sized(n);
-    let refusal = tests::first_refusal(true, sized, k <= out.len(), stale, true, true, true);
-    if refusal != 0 {
+    let refusal = tests::early_refusal(true, sized, k <= out.len(), stale);
+    if refusal.number != 0 {
         return refusal;
     }
     fronts::copy_front(s, k, out);
-    0
+    refusal
 }
 
 impl Filter {
-    pub fn read_x(self, out: &mut [f64]) -> u8
+    pub fn read_x(self, out: &mut [f64]) -> Verdict
         ensures { λ r. ⌜ r ≡ step binary64 self (reading (read-x (now (out .entry)))) .reply .refusal ⌝ }
         ensures { λ r. ⌜ now (out .exit) ≡ over (step binary64 self (reading (read-x (now (out .entry)))) .reply .given) (now (out .entry)) ⌝ }
     {
@@ -42,7 +43,7 @@ impl Filter {
         read(n, n, false, &x, out)
     }
 
-    pub fn read_p(self, out: &mut [f64]) -> u8
+    pub fn read_p(self, out: &mut [f64]) -> Verdict
         ensures { λ r. ⌜ r ≡ step binary64 self (reading (read-p (now (out .entry)))) .reply .refusal ⌝ }
         ensures { λ r. ⌜ now (out .exit) ≡ over (step binary64 self (reading (read-p (now (out .entry)))) .reply .given) (now (out .entry)) ⌝ }
     {
@@ -52,7 +53,7 @@ impl Filter {
         read(n, k, false, &p, out)
     }
 
-    pub fn read_q(self, out: &mut [f64]) -> u8
+    pub fn read_q(self, out: &mut [f64]) -> Verdict
         ensures { λ r. ⌜ r ≡ step binary64 self (reading (read-q (now (out .entry)))) .reply .refusal ⌝ }
         ensures { λ r. ⌜ now (out .exit) ≡ over (step binary64 self (reading (read-q (now (out .entry)))) .reply .given) (now (out .entry)) ⌝ }
     {
@@ -62,7 +63,7 @@ impl Filter {
         read(n, k, false, &q, out)
     }
 
-    pub fn read_points(self, out: &mut [f64]) -> u8
+    pub fn read_points(self, out: &mut [f64]) -> Verdict
         ensures { λ r. ⌜ r ≡ step binary64 self (reading (read-points (now (out .entry)))) .reply .refusal ⌝ }
         ensures { λ r. ⌜ now (out .exit) ≡ over (step binary64 self (reading (read-points (now (out .entry)))) .reply .given) (now (out .entry)) ⌝ }
     {
@@ -77,8 +78,8 @@ impl Filter {
     {
         let n = self.sheet.n;
         let sized = tests::is_sized(n);
-        let refusal = tests::first_refusal(true, sized, true, false, true, true, true);
-        if refusal != 0 {
+        let refusal = tests::early_refusal(true, sized, true, false);
+        if refusal.number != 0 {
             let params = Params {
                 alpha: 0.0,
                 beta: 0.0,
@@ -87,7 +88,7 @@ impl Filter {
             return ParamsRead { refusal, params };
         }
         let params = self.sheet.params;
-        ParamsRead { refusal: 0, params }
+        ParamsRead { refusal, params }
     }
 
     pub fn read_stale(self) -> StaleRead
@@ -95,15 +96,15 @@ impl Filter {
     {
         let n = self.sheet.n;
         let sized = tests::is_sized(n);
-        let refusal = tests::first_refusal(true, sized, true, false, true, true, true);
-        if refusal != 0 {
+        let refusal = tests::early_refusal(true, sized, true, false);
+        if refusal.number != 0 {
             return StaleRead {
                 refusal,
                 stale: true,
             };
         }
         StaleRead {
-            refusal: 0,
+            refusal,
             stale: self.track.stale,
         }
     }

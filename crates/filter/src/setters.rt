@@ -8,6 +8,7 @@ use crate::Filter;
 use crate::fronts;
 use crate::tests;
 use angles::Kind;
+use floats::Slice;
 use sigma::Params;
 
 impl Filter {
@@ -19,8 +20,8 @@ impl Filter {
         let n = sheet.n;
         let stage = track.stage;
         let shut = tests::is_shut(stage);
-        let refusal = tests::slice_refusal(shut, n, n, src);
-        if refusal != 0 {
+        let refusal = tests::slice_refusal(shut, n, n, Slice::State, src);
+        if refusal.number != 0 {
             return Answer {
                 filter: self,
                 refusal,
@@ -31,7 +32,7 @@ impl Filter {
         track.x = x;
         Answer {
             filter: Filter { sheet, track },
-            refusal: 0,
+            refusal,
         }
     }
 
@@ -44,8 +45,8 @@ impl Filter {
         let stage = track.stage;
         let shut = tests::is_shut(stage);
         let k = tests::square(n);
-        let refusal = tests::slice_refusal(shut, n, k, src);
-        if refusal != 0 {
+        let refusal = tests::slice_refusal(shut, n, k, Slice::Covariance, src);
+        if refusal.number != 0 {
             return Answer {
                 filter: self,
                 refusal,
@@ -56,7 +57,7 @@ impl Filter {
         track.p = p;
         Answer {
             filter: Filter { sheet, track },
-            refusal: 0,
+            refusal,
         }
     }
 
@@ -69,8 +70,8 @@ impl Filter {
         let stage = track.stage;
         let shut = tests::is_shut(stage);
         let k = tests::square(n);
-        let refusal = tests::slice_refusal(shut, n, k, src);
-        if refusal != 0 {
+        let refusal = tests::slice_refusal(shut, n, k, Slice::Noise, src);
+        if refusal.number != 0 {
             return Answer {
                 filter: self,
                 refusal,
@@ -80,7 +81,7 @@ impl Filter {
         sheet.q = q;
         Answer {
             filter: Filter { sheet, track },
-            refusal: 0,
+            refusal,
         }
     }
 
@@ -93,10 +94,11 @@ impl Filter {
         let stage = track.stage;
         let shut = tests::is_shut(stage);
         let sized = tests::is_sized(n);
-        let finite = tests::params_finite(params);
+        let values = tests::values(params);
+        let found = floats::first_bad(Slice::Lone, &values, 3);
         let passing = tests::params_pass(n, params);
-        let refusal = tests::first_refusal(shut, sized, true, false, finite, true, passing);
-        if refusal != 0 {
+        let refusal = tests::first_refusal(shut, sized, true, false, found, true, passing);
+        if refusal.number != 0 {
             return Answer {
                 filter: self,
                 refusal,
@@ -106,7 +108,7 @@ impl Filter {
         sheet.params = params;
         Answer {
             filter: Filter { sheet, track },
-            refusal: 0,
+            refusal,
         }
     }
 
@@ -120,9 +122,11 @@ impl Filter {
         let shut = tests::is_shut(stage);
         let states = tests::is_sized(n);
         let sized = tests::both(states, i < n);
-        let check = angles::kind_refusal(kind);
-        let refusal = tests::first_refusal(shut, sized, true, false, check != 5, true, check != 6);
-        if refusal != 0 {
+        let value = [angles::half_of(kind)];
+        let found = floats::first_bad(Slice::Lone, &value, 1);
+        let passing = angles::kind_passes(kind);
+        let refusal = tests::first_refusal(shut, sized, true, false, found, true, passing);
+        if refusal.number != 0 {
             return Answer {
                 filter: self,
                 refusal,
@@ -132,7 +136,7 @@ impl Filter {
         sheet.kinds[i] = kind;
         Answer {
             filter: Filter { sheet, track },
-            refusal: 0,
+            refusal,
         }
     }
 }

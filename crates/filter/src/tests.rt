@@ -1,58 +1,71 @@
 // What the calls test before they are taken, a function for each test, and the order of the refusals. None of them asks anything; where a test is about sizes that may not do, it is right once they do.
 ghost use mathlib.Core.Path.{_≡_};
-ghost use mathlib.Core.Bool.{false, _&&_, cond};
-ghost use mathlib.Core.List.{[], _∷_, _++_};
+ghost use mathlib.Core.Bool.{Bool, true, false, _&&_, cond};
+ghost use mathlib.Core.List.{[], _++_};
 ghost use Prim.Native.Nat.{_+_, _*_};
 ghost use lib.Dec.{leb};
 ghost use lib.ListN.{take};
 ghost use lib.Ieee.{binary64};
-ghost use Rattle.floats.specs.Refusal.{refusal};
-ghost use Rattle.floats.specs.Numbers.{allFinite};
+ghost use Rattle.floats.specs.Refusal.{Outcome, refusal, nothing};
+ghost use Rattle.floats.specs.Search.{input};
 ghost use Rattle.angles.specs.Kinds.{isPlain};
 ghost use Rattle.sigma.specs.Weights.{weightsPass};
-ghost use Rattle.filter.specs.Asked.{inRange, long, clear, every, inOrder, nothing, firstRefusal};
+ghost use Rattle.filter.specs.Asked.{inRange, long, passing, every, inOrder, firstRefusal};
 ghost use Rattle.filter.specs.Filters.{isShut, isPredicting, isCorrecting};
-ghost use Rattle.filter.specs.Calls.{line, lend, observedNumbers};
+ghost use Rattle.filter.specs.Calls.{lend, valuesOf, halves, observedNumbers, line};
 use crate::Stage;
 use angles::Kind;
 use angles::Residual;
+use floats::Slice;
+use floats::Verdict;
 use sigma::Params;
 use sigma::weights;
 
-// The first refusal in the order 3, 1, 2, 4, 5, 10, 6, or 0.
+// What comes before the numbers, in the order 3, 1, 2, 4; else 0.
+pub fn early_refusal(fits: bool, sized: bool, long: bool, stale: bool) -> Verdict
+    ensures { λ r. ⌜ r ≡ refusal (inOrder fits sized long stale nothing true true nothing) ⌝ }
+{
+    if !fits {
+        return floats::placeless(3);
+    }
+    if !sized {
+        return floats::placeless(1);
+    }
+    if !long {
+        return floats::placeless(2);
+    }
+    if stale {
+        return floats::placeless(4);
+    }
+    floats::placeless(0)
+}
+
+// The first refusal in the order 3, 1, 2, 4, what the search has found (51 to 56), 10, 6; else 0.
 pub fn first_refusal(
     fits: bool,
     sized: bool,
     long: bool,
     stale: bool,
-    finite: bool,
+    found: Verdict,
     plain: bool,
     passing: bool,
-) -> u8
-    ensures { λ r. ⌜ r ≡ refusal (inOrder fits sized long stale finite plain passing nothing) ⌝ }
+) -> Verdict
+    ensures { λ r. ⌜ ((o : Outcome Bool) → found ≡ refusal o → r ≡ refusal (inOrder fits sized long stale o plain passing nothing)) ⌝ }
 {
-    if !fits {
-        return 3;
+    let early = early_refusal(fits, sized, long, stale);
+    if early.number != 0 {
+        return early;
     }
-    if !sized {
-        return 1;
-    }
-    if !long {
-        return 2;
-    }
-    if stale {
-        return 4;
-    }
-    if !finite {
-        return 5;
+    if found.number != 0 {
+        return found;
     }
     if !plain {
-        return 10;
+        return floats::placeless(10);
     }
     if !passing {
-        return 6;
+        return floats::placeless(6);
     }
-    0
+    floats::placeless(0)
 }
 
 // ---- 3
@@ -148,14 +161,25 @@ pub fn last_point(n: usize) -> usize
     0
 }
 
-// ---- 5, 10 and 6
+// ---- 51 to 56: the numbers that parameters and kinds bring in
 
-pub fn params_finite(params: Params) -> bool
-    ensures { λ r. ⌜ r ≡ allFinite (params .alpha ∷ params .beta ∷ params .kappa ∷ []) ⌝ }
+pub fn values(params: Params) -> [f64; 3]
+    ensures { λ r. ⌜ r ≡ valuesOf params ⌝ }
 {
-    let v = [params.alpha, params.beta, params.kappa];
-    floats::all_finite(&v, 3)
+    [params.alpha, params.beta, params.kappa]
 }
+
+pub fn halves(kinds: [Kind; 4]) -> [f64; 4]
+    ensures { λ r. ⌜ r ≡ halves kinds ⌝ }
+{
+    let a = angles::half_of(kinds[0]);
+    let b = angles::half_of(kinds[1]);
+    let c = angles::half_of(kinds[2]);
+    let d = angles::half_of(kinds[3]);
+    [a, b, c, d]
+}
+
+// ---- 10 and 6
 
 pub fn params_pass(n: usize, params: Params) -> bool
     ensures { λ r. ⌜ r ≡ (leb n 8 && weightsPass binary64 n params) ⌝ }
@@ -166,16 +190,16 @@ pub fn params_pass(n: usize, params: Params) -> bool
     false
 }
 
-// Whether none of the first m kinds is refused by the number.
-pub fn no_kind_refused(m: usize, kinds: [Kind; 4], number: u8) -> bool
-    ensures { λ r. ⌜ r ≡ every (clear binary64 number) (take m kinds) ⌝ }
+// Whether the first m kinds pass.
+pub fn kinds_pass(m: usize, kinds: [Kind; 4]) -> bool
+    ensures { λ r. ⌜ r ≡ every (passing binary64) (take m kinds) ⌝ }
 {
     let mut i = 0usize;
     while i < m {
         if i >= 4 {
             return true;
         }
-        if angles::kind_refusal(kinds[i]) == number {
+        if !angles::kind_passes(kinds[i]) {
             return false;
         }
         i += 1;
@@ -214,28 +238,18 @@ pub fn all_plain(n: usize, kinds: [Kind; 8]) -> bool
 // ---- calls that take in the first numbers of lent slices
 
 // One slice, and nothing else to test.
-pub fn slice_refusal(fits: bool, n: usize, k: usize, s: &[f64]) -> u8
-    ensures { λ r. ⌜ r ≡ firstRefusal binary64 (line fits n [] (lend (now (s .entry)) k) false (take k (now (s .entry))) []) ⌝ }
+pub fn slice_refusal(fits: bool, n: usize, k: usize, slice: Slice, s: &[f64]) -> Verdict
+    ensures { λ r. ⌜ r ≡ firstRefusal binary64 (line fits n [] (lend (now (s .entry)) k) false (input slice (take k (now (s .entry)))) []) ⌝ }
 {
     let sized = is_sized(n);
-    let finite = floats::all_finite(s, k);
-    first_refusal(fits, sized, k <= s.len(), false, finite, true, true)
+    let found = floats::first_bad(slice, s, k);
+    first_refusal(fits, sized, k <= s.len(), false, found, true, true)
 }
 
-// Of three slices, whether each is long enough, and whether the numbers taken in are finite.
+// Whether each of three slices is long enough.
 pub fn all_long(a: &[f64], i: usize, b: &[f64], j: usize, c: &[f64], k: usize) -> bool
     ensures { λ r. ⌜ r ≡ every long (lend (now (a .entry)) i ++ (lend (now (b .entry)) j ++ lend (now (c .entry)) k)) ⌝ }
 {
     let rest = both(j <= b.len(), k <= c.len());
     both(i <= a.len(), rest)
-}
-
-pub fn fronts_finite(a: &[f64], i: usize, b: &[f64], j: usize, c: &[f64], k: usize) -> bool
-    ensures { λ r. ⌜ r ≡ allFinite (take i (now (a .entry)) ++ (take j (now (b .entry)) ++ take k (now (c .entry)))) ⌝ }
-{
-    let first = floats::all_finite(a, i);
-    let second = floats::all_finite(b, j);
-    let third = floats::all_finite(c, k);
-    let rest = both(second, third);
-    both(first, rest)
 }

@@ -1,5 +1,6 @@
--- `Refusals`: outcomes and their numbers. `Finite` and `Fronts`: lists of numbers. `Units` and `Grid`: exactness over the format.
+-- `Refusals`: outcomes and their numbers. `Search`: the search of the numbers that come in. `Finite` and `Fronts`: lists of numbers. `Units` and `Grid`: exactness over the format.
 pub mod Refusals
+pub mod Search
 pub mod Finite
 pub mod Fronts
 pub mod Units

@@ -1,10 +1,26 @@
 -- Laws of outcomes and their numbers (specs/Refusal.antt): a refusal's number is not 0, so the number tells which it was. Assumes nothing.
 use Prim.Native.Nat.{ℕ, _<_}
-use mathlib.Core.Path.{_≡_, refl}
-use mathlib.Core.Bool.{Bool, true, false}
+use mathlib.Core.Path.{_≡_, refl, sym, ap, _∙_}
+use mathlib.Core.Bool.{Bool, true, false, cond}
 use mathlib.Core.Logic.{_≢_, _⊎_, inl, inr}
 use native.Mathlib.Omega.{arith}
-use Rattle.floats.specs.Refusal.{Refusal, SIZE, SHORT, STAGE, STALE, NUMBER, PARAM, PIVOT, INNOV, RANGE, KIND, number, Outcome, refused, accepted, refusal, or, unless, onward}
+use borrow.Author.Tests.{ne-eqb}
+use lib.Dec.{eqb}
+use Rattle.floats.specs.declared.Slice.{Slice}
+use Rattle.floats.specs.declared.Slice.the-variants.{State, Covariance, Noise, Points, Measurement, Lone}
+use Rattle.floats.specs.declared.Verdict.{Verdict}
+use Rattle.floats.specs.Refusal.{Refusal, SIZE, SHORT, STAGE, STALE, NUMBER, PARAM, PIVOT, INNOV, RANGE, KIND, sliceNumber, number, placeOf, verdict, earlier, Outcome, refused, accepted, refusal, or, unless, onward}
+
+pub number-of : {v w : Verdict} → v ≡ w → v .number ≡ w .number
+number-of e = ap (λ (v : Verdict). v .number) e
+
+pub slice-above : (s : Slice) → 50 < sliceNumber s
+slice-above State = omega arith
+slice-above Covariance = omega arith
+slice-above Noise = omega arith
+slice-above Points = omega arith
+slice-above Measurement = omega arith
+slice-above Lone = omega arith
 
 -- no refusal has the number 0
 pub number-above : (r : Refusal) → 0 < number r
@@ -12,23 +28,67 @@ number-above SIZE = omega arith
 number-above SHORT = omega arith
 number-above STAGE = omega arith
 number-above STALE = omega arith
-number-above NUMBER = omega arith
+number-above (NUMBER s i) = omega (arith, slice-above s)
 number-above PARAM = omega arith
-number-above PIVOT = omega arith
-number-above INNOV = omega arith
+number-above (PIVOT i) = omega arith
+number-above (INNOV i) = omega arith
 number-above RANGE = omega arith
 number-above KIND = omega arith
+
+-- number and place give the refusal back
+named : ℕ → ℕ → Refusal
+named k i =
+    cond (eqb k 1) SIZE
+    (cond (eqb k 2) SHORT
+    (cond (eqb k 3) STAGE
+    (cond (eqb k 4) STALE
+    (cond (eqb k 6) PARAM
+    (cond (eqb k 7) (PIVOT i)
+    (cond (eqb k 8) (INNOV i)
+    (cond (eqb k 9) RANGE
+    (cond (eqb k 10) KIND
+    (cond (eqb k 51) (NUMBER State i)
+    (cond (eqb k 52) (NUMBER Covariance i)
+    (cond (eqb k 53) (NUMBER Noise i)
+    (cond (eqb k 54) (NUMBER Points i)
+    (cond (eqb k 55) (NUMBER Measurement i)
+    (NUMBER Lone i))))))))))))))
+
+named-verdict : (r : Refusal) → named (number r) (placeOf r) ≡ r
+unfolding named
+named-verdict SIZE = refl
+named-verdict SHORT = refl
+named-verdict STAGE = refl
+named-verdict STALE = refl
+named-verdict PARAM = refl
+named-verdict (PIVOT j) = refl
+named-verdict (INNOV j) = refl
+named-verdict RANGE = refl
+named-verdict KIND = refl
+named-verdict (NUMBER State i) = refl
+named-verdict (NUMBER Covariance i) = refl
+named-verdict (NUMBER Noise i) = refl
+named-verdict (NUMBER Points i) = refl
+named-verdict (NUMBER Measurement i) = refl
+named-verdict (NUMBER Lone i) = refl
+
+pub verdict-same : {q r : Refusal} → verdict q ≡ verdict r → q ≡ r
+verdict-same {q} {r} e = sym (named-verdict q) ∙ ap (λ (v : Verdict). named (v .number) (v .place)) e ∙ named-verdict r
+
+pub is-stage : (r : Refusal) → number r ≡ 3 → r ≡ STAGE
+unfolding named
+is-stage r e = sym (named-verdict r) ∙ ap (λ (k : ℕ). named k (placeOf r)) e
 
 module _ {A : Type 0} where
   pub refused-never : {r : Refusal} {a : A} → refused r ≡ accepted a → ⊥
   refused-never e = let x : _≡_ {A = ℕ} 0 1 = cc in omega arith
 
   -- a step that gave 0 was accepted, and one that gave another number was refused by it
-  pub gave-zero : (o : Outcome A) (d : A) → refusal o ≡ 0 → o ≡ accepted (or d o)
+  pub gave-zero : (o : Outcome A) (d : A) → refusal o .number ≡ 0 → o ≡ accepted (or d o)
   gave-zero (refused r) d e = absurd (omega (arith, number-above r))
   gave-zero (accepted a) d e = refl
 
-  pub gave-number : (o : Outcome A) → refusal o ≢ 0 → (r : Refusal) × (o ≡ refused r) × (refusal o ≡ number r)
+  pub gave-number : (o : Outcome A) → refusal o .number ≢ 0 → (r : Refusal) × (o ≡ refused r) × (refusal o ≡ verdict r)
   gave-number (refused r) h = (r, refl, refl)
   gave-number (accepted a) h = absurd (h refl)
 
@@ -48,3 +108,12 @@ module _ {A : Type 0} where
   pub failed : (t : Bool) (q r : Refusal) (o : Outcome A) → unless t q o ≡ refused r → ((t ≡ false) × (q ≡ r)) ⊎ ((t ≡ true) × (o ≡ refused r))
   failed true q r o e = inr (refl, e)
   failed false q r o e = inl (refl, cc)
+
+-- ---- one after the other
+
+pub earlier-refused : (r : Refusal) (b : Verdict) → earlier (verdict r) b ≡ verdict r
+earlier-refused r b = let e : eqb (number r) 0 ≡ false = ne-eqb (number r) 0 (λ (z : number r ≡ 0). omega (arith, number-above r)) in rw e
+
+pub earlier-onward : {A B : Type 0} (o : Outcome A) (p : Outcome B) → refusal (onward o (λ (a : A). p)) ≡ earlier (refusal o) (refusal p)
+earlier-onward (refused r) p = sym (earlier-refused r (refusal p))
+earlier-onward (accepted a) p = refl

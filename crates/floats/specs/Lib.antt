@@ -1,5 +1,6 @@
--- `Refusal`: the refusals and what a call comes to. `Numbers` and `Fronts`: numbers and lists of them. `Units`: a value as a whole number of units.
+-- `Refusal`: the refusals and what a call comes to. `Search`: the search of the numbers that come in. `Numbers` and `Fronts`: numbers and lists of them. `Units`: a value as a whole number of units.
 pub mod Refusal
+pub mod Search
 pub mod Numbers
 pub mod Fronts
 pub mod Units

@@ -1,26 +1,69 @@
--- The nine refusals of document 01 and, so far, one of document 02, their numbers, and what a call or a step comes to. Definitions only.
+-- The refusals of documents 01 and 02, their numbers and the places that they tell, and what a call or a step comes to. Definitions only.
 use Prim.Native.Nat.{ℕ}
-use mathlib.Core.Bool.{Bool, cond}
+use mathlib.Core.Bool.{Bool, true, cond}
+use lib.Dec.{eqb}
+use Rattle.floats.specs.declared.Slice.{Slice}
+use Rattle.floats.specs.declared.Slice.the-variants.{State, Covariance, Noise, Points, Measurement, Lone}
+use Rattle.floats.specs.declared.Verdict.{Verdict}
 
--- the table, row by row: No. and Name
+-- the table: a bad number by its slice and its place there, a bad pivot by its row
 pub data Refusal : Type 0 where
-  SIZE SHORT STAGE STALE NUMBER PARAM PIVOT INNOV RANGE KIND : Refusal
+  SIZE SHORT STAGE STALE PARAM RANGE KIND : Refusal
+  NUMBER : Slice → ℕ → Refusal
+  PIVOT INNOV : ℕ → Refusal
+
+-- 5 by the slice: state, covariance, noise, points, measurement, lone value
+abbrev pub sliceNumber : Slice → ℕ
+sliceNumber State = 51
+sliceNumber Covariance = 52
+sliceNumber Noise = 53
+sliceNumber Points = 54
+sliceNumber Measurement = 55
+sliceNumber Lone = 56
 
 abbrev pub number : Refusal → ℕ
 number SIZE = 1
 number SHORT = 2
 number STAGE = 3
 number STALE = 4
-number NUMBER = 5
+number (NUMBER s i) = sliceNumber s
 number PARAM = 6
-number PIVOT = 7
-number INNOV = 8
+number (PIVOT j) = 7
+number (INNOV j) = 8
 number RANGE = 9
 number KIND = 10
 
+abbrev pub placeOf : Refusal → ℕ
+placeOf SIZE = 0
+placeOf SHORT = 0
+placeOf STAGE = 0
+placeOf STALE = 0
+placeOf (NUMBER s i) = i
+placeOf PARAM = 0
+placeOf (PIVOT j) = j
+placeOf (INNOV j) = j
+placeOf RANGE = 0
+placeOf KIND = 0
+
+-- a bad number that stands alone: 56 at 0
+abbrev pub badLone : Refusal
+badLone = NUMBER Lone 0
+
+-- what every answer says: a number and a place
+abbrev pub verdict : Refusal → Verdict
+verdict r = record { number = number r; place = placeOf r }
+
+-- a number that tells no place
+abbrev pub placeless : ℕ → Verdict
+placeless k = record { number = k; place = 0 }
+
 -- 0 means accepted
-abbrev pub taken : ℕ
-taken = 0
+abbrev pub taken : Verdict
+taken = placeless 0
+
+-- of two that are looked for one after the other, the first that refuses
+abbrev pub earlier : Verdict → Verdict → Verdict
+earlier a b = cond (eqb (a .number) 0) b a
 
 -- refused, which gives nothing; or accepted, with what it gives
 pub data Outcome (A : Type 0) : Type 0 where
@@ -28,9 +71,9 @@ pub data Outcome (A : Type 0) : Type 0 where
   accepted : A → Outcome A
 
 module _ {A : Type 0} where
-  -- the answer number
-  abbrev pub refusal : Outcome A → ℕ
-  refusal (refused r) = number r
+  -- the number and the place
+  abbrev pub refusal : Outcome A → Verdict
+  refusal (refused r) = verdict r
   refusal (accepted a) = taken
 
   -- what was accepted, or d
@@ -46,3 +89,7 @@ module _ {A : Type 0} where
   abbrev pub onward : {B : Type 0} → Outcome A → (A → Outcome B) → Outcome B
   onward (refused r) k = refused r
   onward (accepted a) k = k a
+
+-- accepted, with nothing to give
+abbrev pub nothing : Outcome Bool
+nothing = accepted true

@@ -21,7 +21,7 @@ use Rattle.matrix.proofs.Cells.{length-zeros, zeros-at, total-same}
 use Rattle.matrix.proofs.Results.{worked-then}
 use Rattle.matrix.proofs.FactorSteps.{all-one}
 
-module _ (f : Format) (r : Refusal) (a : List Float) (n : ℕ) where
+module _ (f : Format) (r : ℕ → Refusal) (a : List Float) (n : ℕ) where
   -- the diagonal entry of column j is right, by the entries before it
   pub record Diag (l : List Float) (j : ℕ) : Type 0 where
     pub above : aboveZero (leftOf f r a n j j l) ≡ true
@@ -50,7 +50,7 @@ module _ (f : Format) (r : Refusal) (a : List Float) (n : ℕ) where
 
   -- why a work stopped, with the entries that were right so far
   pub data Stopped : Refusal → Type 0 where
-    at-pivot : (j : ℕ) (l : List Float) → j < n → Part (Was j j) l → aboveZero (leftOf f r a n j j l) ≡ false → Stopped r
+    at-pivot : (j : ℕ) (l : List Float) → j < n → Part (Was j j) l → aboveZero (leftOf f r a n j j l) ≡ false → Stopped (r j)
     at-entry : (i j : ℕ) (l : List Float) → j < i → i < n → Part (Was j i) l
         → finite (div f (leftOf f r a n i j l) (getD l (j * n + j) nan)) ≡ false → Stopped RANGE
 
@@ -188,7 +188,7 @@ module _ (f : Format) (r : Refusal) (a : List Float) (n : ℕ) where
     unfolding columnOf worked
     column-mean j l h p =
         let e = rootOf f (leftOf f r a n j j l) in
-        unless-means _ _ r _
+        unless-means _ _ (r j) _
         (λ t. at-pivot j l h p t)
         (λ t.
         made-to-end j (worked (rowsFrom f r a n j e (n - (j + 1)) (j + 1) (set l (j * n + j) e)))

@@ -10,7 +10,7 @@ use native.Mathlib.Omega.{arith}
 use lib.ListN.{getD, set}
 use lib.Ieee.{Float, Format, nan, div}
 use lib.Ieee.Scale.{finite}
-use Rattle.floats.specs.Refusal.{Refusal, RANGE, number, Outcome, refused, accepted}
+use Rattle.floats.specs.Refusal.{Refusal, RANGE, verdict, Outcome, refused, accepted}
 use Rattle.floats.specs.Numbers.{zeros, allFinite, aboveZero}
 use Rattle.root.specs.Definition.{rootOf}
 use Rattle.matrix.specs.Sums.{lessOf}
@@ -20,11 +20,11 @@ use Rattle.matrix.specs.declared.factor.Factor.{Factor}
 use Rattle.matrix.proofs.Results.{Comes, after-goes, after-stops}
 
 -- the columns from j on, over the entries l, come to the whole outcome
-pub record ColumnsAt (f : Format) (r : Refusal) (a : List Float) (n j : ℕ) (l : List Float) : Type 0 where
+pub record ColumnsAt (f : Format) (r : ℕ → Refusal) (a : List Float) (n j : ℕ) (l : List Float) : Type 0 where
   pub comes : worked (columnsFrom f r a n (n - j) j l) ≡ worked (factorOf f r a n)
 
 -- so do the rows of column j from i on, under the diagonal entry d, and the columns after it
-pub record RowsAt (f : Format) (r : Refusal) (a : List Float) (n j : ℕ) (d : Float) (i : ℕ) (l : List Float) : Type 0 where
+pub record RowsAt (f : Format) (r : ℕ → Refusal) (a : List Float) (n j : ℕ) (d : Float) (i : ℕ) (l : List Float) : Type 0 where
   pub comes : worked (then (rowsFrom f r a n j d (n - i) i l) (λ (k : List Float). columnsFrom f r a n (n - (j + 1)) (j + 1) k)) ≡ worked (factorOf f r a n)
 
 -- one more turn is left than after it
@@ -43,10 +43,10 @@ all-one x = go (finite x)
     go true = refl
     go false = refl
 
-pub columns-begin : {f : Format} {r : Refusal} {a : List Float} {n : ℕ} → ColumnsAt f r a n 0 (zeros 64)
+pub columns-begin : {f : Format} {r : ℕ → Refusal} {a : List Float} {n : ℕ} → ColumnsAt f r a n 0 (zeros 64)
 columns-begin = record { comes = rw sub-zero }
 
-module _ {f : Format} {r : Refusal} {a : List Float} {n j : ℕ} {l : List Float} (at : ColumnsAt f r a n j l) where
+module _ {f : Format} {r : ℕ → Refusal} {a : List Float} {n j : ℕ} {l : List Float} (at : ColumnsAt f r a n j l) where
   pub columns-end : n ≤ j → worked (factorOf f r a n) ≡ accepted l
   unfolding columnsFrom worked
   columns-end h = sym (rw (none-left j n h) at (at .comes))
@@ -57,11 +57,11 @@ module _ {f : Format} {r : Refusal} {a : List Float} {n j : ℕ} {l : List Float
     unfolding columnsFrom columnOf worked
     column-goes t e = record { comes = rw (row, e) (rw (one-more j n h, ← row, ← is, t, row) at (at .comes)) }
 
-    pub column-stops : aboveZero p ≡ false → worked (factorOf f r a n) ≡ refused r
+    pub column-stops : aboveZero p ≡ false → worked (factorOf f r a n) ≡ refused (r j)
     unfolding columnsFrom columnOf worked
     column-stops t = sym (rw (one-more j n h, ← row, ← is, t) at (at .comes))
 
-module _ {f : Format} {r : Refusal} {a : List Float} {n j : ℕ} {d : Float} {i : ℕ} {l : List Float} (at : RowsAt f r a n j d i l) where
+module _ {f : Format} {r : ℕ → Refusal} {a : List Float} {n j : ℕ} {d : Float} {i : ℕ} {l : List Float} (at : RowsAt f r a n j d i l) where
   pub rows-end : n ≤ i → ColumnsAt f r a n (j + 1) l
   unfolding rowsFrom
   rows-end h = record { comes = rw (none-left i n h) at (at .comes) }
@@ -78,8 +78,8 @@ module _ {f : Format} {r : Refusal} {a : List Float} {n j : ℕ} {d : Float} {i 
 
 -- a caller that follows a plan: q is the factor that the code has made, and the code leaves where its number is not 0
 module _ {A : Type 0} {o : Outcome A} {w : Work (List Float)} {κ : List Float → Plan A} (at : Comes o (after w κ)) {q : Factor} (e : q ≡ factored (worked w)) where
-  pub factor-goes : q .refusal ≡ 0 → Comes o (κ (q .l))
+  pub factor-goes : q .refusal .number ≡ 0 → Comes o (κ (q .l))
   factor-goes t = after-goes at (ap (λ (x : Factor). x .refusal) e) (zeros 64) (ap (λ (x : Factor). x .l) e) t
 
-  pub factor-stops : q .refusal ≢ 0 → (r : Refusal) × (o ≡ refused r) × (q .refusal ≡ number r)
+  pub factor-stops : q .refusal .number ≢ 0 → (r : Refusal) × (o ≡ refused r) × (q .refusal ≡ verdict r)
   factor-stops t = after-stops at (ap (λ (x : Factor). x .refusal) e) t

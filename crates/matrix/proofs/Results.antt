@@ -8,7 +8,8 @@ use mathlib.Core.Logic.{_↔_, _≢_, ⊎-elim}
 use borrow.Author.Tests.{not-true, not-false}
 use lib.ListN.{take}
 use lib.Ieee.{Float, binary64}
-use Rattle.floats.specs.Refusal.{Refusal, NUMBER, RANGE, number, Outcome, refused, accepted, refusal, or, unless, onward}
+use Rattle.floats.specs.declared.Verdict.{Verdict}
+use Rattle.floats.specs.Refusal.{Refusal, badLone, RANGE, verdict, Outcome, refused, accepted, refusal, or, unless, onward}
 use Rattle.floats.specs.Numbers.{allFinite}
 use Rattle.floats.proofs.Refusals.{refused-never, gave-zero, gave-number, onward-same, onward-unless, passed, failed}
 use Rattle.root.specs.Definition.{rootOf}
@@ -115,16 +116,16 @@ module _ {A : Type 0} where
     unfolding run worked
     stops h = rw (← e, ← t, not-true b h) at (at .is)
 
-  -- q is the number that the step gave, and u what it made, or d
-  module _ {o : Outcome A} {B : Type 0} {w : Work B} {κ : B → Plan A} (at : Comes o (after w κ)) {q : ℕ} (n : q ≡ refusal (worked w)) where
-    pub after-goes : (d : B) {u : B} → u ≡ or d (worked w) → q ≡ 0 → Comes o (κ u)
+  -- q is what the step told, and u what it made, or d
+  module _ {o : Outcome A} {B : Type 0} {w : Work B} {κ : B → Plan A} (at : Comes o (after w κ)) {q : Verdict} (n : q ≡ refusal (worked w)) where
+    pub after-goes : (d : B) {u : B} → u ≡ or d (worked w) → q .number ≡ 0 → Comes o (κ u)
     unfolding run
-    after-goes d e t = record { is = rw (gave-zero (worked w) d (sym n ∙ t), ← e) at (at .is) }
+    after-goes d e t = record { is = rw (gave-zero (worked w) d (sym (ap (λ (v : Verdict). v .number) n) ∙ t), ← e) at (at .is) }
 
-    pub after-stops : q ≢ 0 → (r : Refusal) × (o ≡ refused r) × (q ≡ number r)
+    pub after-stops : q .number ≢ 0 → (r : Refusal) × (o ≡ refused r) × (q ≡ verdict r)
     unfolding run
     after-stops t =
-        let g = gave-number (worked w) (λ z. t (n ∙ z)) in
+        let g = gave-number (worked w) (λ z. t (ap (λ (v : Verdict). v .number) n ∙ z)) in
         (g .0, rw (g .1) at (at .is), n ∙ g .2)
 
   -- x is a number whose root is taken, and the answer q is taken apart
@@ -133,7 +134,7 @@ module _ {A : Type 0} where
     unfolding run worked
     root-goes t = let h = root-value x told t in record { is = rw (h .0, h .1) at (at .is) }
 
-    pub root-stops : q ≡ Refused → o ≡ refused NUMBER
+    pub root-stops : q ≡ Refused → o ≡ refused badLone
     unfolding run worked
     root-stops t = rw (root-refused x told t) at (at .is)
 

@@ -3,7 +3,7 @@ use mathlib.Core.Path.{_≡_, sym, ap, _∙_}
 use mathlib.Core.Bool.{true, false, true≢false}
 use mathlib.Core.Logic.{⊎-elim}
 use lib.Ieee.{Float, binary64}
-use Rattle.floats.specs.Refusal.{NUMBER, accepted}
+use Rattle.floats.specs.Refusal.{badLone, accepted}
 use Rattle.floats.specs.Numbers.{aboveZero}
 use Rattle.floats.proofs.Refusals.{refused-never, passed, failed}
 use Rattle.root.specs.Definition.{rootOf, rooted}
@@ -15,13 +15,13 @@ use Rattle.root.proofs.Answers.{above-rooted}
 module _ {q : Root} (x : Float) (told : outcomeOf q ≡ rootOutcome binary64 x) where
   pub root-value : {d : Float} → q ≡ Value d → (rooted x ≡ true) × (rootOf binary64 x ≡ d)
   root-value {d} h =
-      let k = passed (rooted x) NUMBER (accepted (rootOf binary64 x)) d (sym told ∙ ap outcomeOf h) in
+      let k = passed (rooted x) badLone (accepted (rootOf binary64 x)) d (sym told ∙ ap outcomeOf h) in
       let e : accepted (rootOf binary64 x) ≡ accepted d = k .1 in
       (k .0, cc)
 
   pub root-refused : q ≡ Refused → rooted x ≡ false
   root-refused h =
-      ⊎-elim (λ k. k .0) (λ k. absurd (refused-never (sym (k .1)))) (failed (rooted x) NUMBER NUMBER (accepted (rootOf binary64 x)) (sym told ∙ ap outcomeOf h))
+      ⊎-elim (λ k. k .0) (λ k. absurd (refused-never (sym (k .1)))) (failed (rooted x) badLone badLone (accepted (rootOf binary64 x)) (sym told ∙ ap outcomeOf h))
 
   -- of a pivot x that has passed
   module _ (t : aboveZero x ≡ true) where

@@ -12,8 +12,8 @@ use Rattle.matrix.specs.declared.factor.Pivots.{Pivots}
 use Rattle.matrix.specs.declared.factor.Pivots.the-variants.{OfP, OfS}
 use Rattle.matrix.specs.declared.factor.Factor.{Factor}
 
--- A of n rows; a bad pivot is refused by r
-module _ (f : Format) (r : Refusal) (a : List Float) (n : ℕ) where
+-- A of n rows; a bad pivot is refused by r with its row
+module _ (f : Format) (r : ℕ → Refusal) (a : List Float) (n : ℕ) where
   -- A[i][j] minus L[i][k]·L[j][k] for k below j in turn
   abbrev pub leftOf : ℕ → ℕ → List Float → Float
   leftOf i j l = lessOf f (getD a (i * n + j) nan) l (i * n) (j * n) j
@@ -30,7 +30,7 @@ module _ (f : Format) (r : Refusal) (a : List Float) (n : ℕ) where
   unfolding rowsFrom
   columnOf j l =
       let d = rootOf f (leftOf j j l) in
-      check (pivot r (leftOf j j l)) (rowsFrom j d (n - (j + 1)) (j + 1) (set l (j * n + j) d))
+      check (pivot (r j) (leftOf j j l)) (rowsFrom j d (n - (j + 1)) (j + 1) (set l (j * n + j) d))
 
   -- m columns from column j on
   unfoldable pub columnsFrom : ℕ → ℕ → List Float → Work (List Float)
@@ -44,11 +44,11 @@ module _ (f : Format) (r : Refusal) (a : List Float) (n : ℕ) where
 
 -- ---- what the code declares
 
--- 7 for P, 8 for S
-abbrev pub refusedBy : Pivots → Refusal
+-- 7 for P, 8 for S, each by the row
+abbrev pub refusedBy : Pivots → ℕ → Refusal
 refusedBy OfP = PIVOT
 refusedBy OfS = INNOV
 
--- the number and the entries, +0 throughout where refused
+-- the number with its place, and the entries, +0 throughout where refused
 abbrev pub factored : Outcome (List Float) → Factor
 factored o = record { refusal = refusal o; l = or (zeros 64) o }

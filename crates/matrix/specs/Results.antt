@@ -5,7 +5,7 @@ use mathlib.Core.Bool.{Bool, true, false}
 use mathlib.Core.List.{List, [], _∷_, _++_}
 use lib.ListN.{take}
 use lib.Ieee.{Float}
-use Rattle.floats.specs.Refusal.{Refusal, NUMBER, RANGE, Outcome, accepted, unless, onward}
+use Rattle.floats.specs.Refusal.{Refusal, badLone, RANGE, Outcome, accepted, unless, onward}
 use Rattle.floats.specs.Numbers.{allFinite, aboveZero}
 use Rattle.root.specs.Definition.{rooted}
 
@@ -14,9 +14,9 @@ use Rattle.root.specs.Definition.{rooted}
 pub data Result : Type 0 where
   -- numbers that have to be finite: 9
   numbers : List Float → Result
-  -- a pivot, tested before its root is taken, by the refusal that its matrix has: 7 for P, 8 for S
+  -- a pivot, tested before its root is taken, by the refusal that its matrix and its row have: 7 for P, 8 for S
   pivot : Refusal → Float → Result
-  -- a number whose root is taken: 5
+  -- a number whose root is taken: 56
   rooting : Float → Result
 
 abbrev pub good : Result → Bool
@@ -27,7 +27,7 @@ good (rooting x) = rooted x
 abbrev pub refusalOf : Result → Refusal
 refusalOf (numbers v) = RANGE
 refusalOf (pivot r x) = r
-refusalOf (rooting x) = NUMBER
+refusalOf (rooting x) = badLone
 
 -- of the results in running order, the first that fails is refused by r
 pub data First : Refusal → List Result → Type 0 where

@@ -2,10 +2,11 @@
 ghost use mathlib.Core.Path.{_≡_};
 ghost use Prim.Native.Nat.{_≤_};
 ghost use lib.Ieee.{binary64};
-ghost use Rattle.floats.specs.Refusal.{number};
+ghost use Rattle.floats.specs.Refusal.{verdict};
 ghost use Rattle.matrix.specs.Results.{worked};
 ghost use Rattle.matrix.specs.Factor.{refusedBy, factorOf, factored};
 use crate::sums;
+use floats::Verdict;
 use root::Root;
 
 // Whose pivots a factor has: those of P or those of S.
@@ -14,9 +15,9 @@ pub enum Pivots {
     OfS,
 }
 
-// A factor: 0 and its entries, or the number that it was refused by and +0 throughout.
+// A factor: 0 and its entries, or the number that it was refused by, with the pivot's row, and +0 throughout.
 pub struct Factor {
-    pub refusal: u8,
+    pub refusal: Verdict,
     pub l: [f64; 64],
 }
 
@@ -26,13 +27,19 @@ pub const INNOV: u8 = 8;
 
 pub const RANGE: u8 = 9;
 
-// The number that refuses a pivot.
-fn refused_by(of: Pivots) -> u8
-    ensures { λ r. ⌜ r ≡ number (refusedBy of) ⌝ }
+// The number that refuses a pivot, with its row.
+fn refused_by(of: Pivots, row: usize) -> Verdict
+    ensures { λ r. ⌜ r ≡ verdict (refusedBy of row) ⌝ }
 {
     match of {
-        Pivots::OfP => PIVOT,
-        Pivots::OfS => INNOV,
+        Pivots::OfP => Verdict {
+            number: PIVOT,
+            place: row,
+        },
+        Pivots::OfS => Verdict {
+            number: INNOV,
+            place: row,
+        },
     }
 }
 
@@ -42,17 +49,20 @@ pub fn cholesky_decompose_lower(a: &[f64; 64], n: usize, of: Pivots) -> Factor
     ensures { λ r. ⌜ r ≡ factored (worked (factorOf binary64 (refusedBy of) (now (a .entry)) n)) ⌝ }
 {
     let mut l = [0.0f64; 64];
-    let mut refusal = 0u8;
+    let mut refusal = Verdict {
+        number: 0,
+        place: 0,
+    };
     let mut j = 0usize;
     'columns: while j < n {
         let s = sums::row(j, n);
         let pivot = sums::less(a[s + j], &l, s, s, j);
         if !floats::is_above_zero(pivot) {
-            refusal = refused_by(of);
+            refusal = refused_by(of, j);
             break 'columns;
         }
         let Root::Value(d) = root::square_root(pivot) else {
-            refusal = refused_by(of);
+            refusal = refused_by(of, j);
             break 'columns;
         };
         l[s + j] = d;
@@ -61,7 +71,10 @@ pub fn cholesky_decompose_lower(a: &[f64; 64], n: usize, of: Pivots) -> Factor
             let r = sums::row(i, n);
             let e = sums::less(a[r + j], &l, r, s, j) / d;
             if !floats::is_finite(e) {
-                refusal = RANGE;
+                refusal = Verdict {
+                    number: RANGE,
+                    place: 0,
+                };
                 break 'columns;
             }
             l[r + j] = e;
@@ -69,7 +82,7 @@ pub fn cholesky_decompose_lower(a: &[f64; 64], n: usize, of: Pivots) -> Factor
         }
         j += 1;
     }
-    if refusal != 0 {
+    if refusal.number != 0 {
         return Factor {
             refusal,
             l: [0.0f64; 64],

@@ -1,6 +1,4 @@
 -- One step of a pair, as the code of a call takes it: the solo call on its side, or a change of the sheet on both. Assumes nothing.
-use Prim.Native.Nat.{ℕ}
-use native.Mathlib.Omega.{arith}
 use mathlib.Core.Path.{_≡_, refl, sym, ap, ap₂, _∙_}
 use mathlib.Core.Bool.{Bool, true, false, _&&_, cond}
 use mathlib.Core.List.{List, []}
@@ -8,8 +6,9 @@ use borrow.Author.Tests.{eqb-true}
 use lib.Dec.{eqb}
 use lib.Ieee.{Float, Format}
 use Rattle.floats.specs.Fronts.{over}
-use Rattle.floats.specs.Refusal.{Refusal, STAGE, number, Outcome, refused, accepted}
-use Rattle.floats.proofs.Refusals.{number-above}
+use Rattle.floats.specs.declared.Verdict.{Verdict}
+use Rattle.floats.specs.Refusal.{Refusal, STAGE, number, verdict, Outcome, refused, accepted}
+use Rattle.floats.proofs.Refusals.{is-stage}
 use Rattle.matrix.specs.Results.{finish, run}
 use Rattle.filter.specs.Asked.{guarded}
 use Rattle.filter.specs.declared.Filter.{Filter}
@@ -52,7 +51,7 @@ module _ (f : Format) (p : Pair) where
 
   -- ---- a change of the sheet
 
-  abbrev kept : ℕ → PairAnswer
+  abbrev kept : Verdict → PairAnswer
   kept k = record { pair = p; refusal = k }
 
   -- by what it comes to on each side
@@ -63,21 +62,22 @@ module _ (f : Format) (p : Pair) where
   through c w o = record { pair = leaves (writing c) p w o; refusal = stepped (solo p w) o .reply .refusal }
 
   -- 3 from the second
-  second-open : (a : Outcome Done) → onBoth a (refused STAGE) ≡ kept 3
-  second-open a = go (eqb (answered (stepped (solo p First) a) .refusal) 3)
+  second-open : (a : Outcome Done) → onBoth a (refused STAGE) ≡ kept (verdict STAGE)
+  second-open (accepted d) = refl
+  second-open (refused r) = go (eqb (number r) 3) (eqb-true _ _)
     where
-      go : (t : Bool) → cond t (kept 3) (kept 3) ≡ kept 3
-      go true = refl
-      go false = refl
+      go : (t : Bool) → (t ≡ true → number r ≡ 3) → cond t (kept (verdict r)) (kept (verdict STAGE)) ≡ kept (verdict STAGE)
+      go true h = ap (λ (q : Refusal). kept (verdict q)) (is-stage r (h refl))
+      go false h = refl
 
   -- one outcome of both
-  both-refused : (r : Refusal) → onBoth (refused r) (refused r) ≡ kept (number r)
-  both-refused r = go (eqb (number r) 3) (eqb (number r) 0) _ (eqb-true _ _) (eqb-true _ _)
+  both-refused : (r : Refusal) → onBoth (refused r) (refused r) ≡ kept (verdict r)
+  both-refused r = go (eqb (number r) 3) (eqb (number r) 0) (eqb-true _ _)
     where
-      go : (s t : Bool) (q : PairAnswer) → (s ≡ true → number r ≡ 3) → (t ≡ true → number r ≡ 0) → cond s (kept 3) (cond t q (kept (number r))) ≡ kept (number r)
-      go true t q h k = ap kept (sym (h refl))
-      go false true q h k = absurd (omega (arith, number-above r, k refl))
-      go false false q h k = refl
+      go : (s t : Bool) → (t ≡ true → number r ≡ 0) → cond s (kept (verdict r)) (record { pair = cond t p p; refusal = verdict r }) ≡ kept (verdict r)
+      go true t k = refl
+      go false true k = refl
+      go false false k = refl
 
   both-come : (c : SheetCall) (w : Side) (o : Outcome Done) → onBoth o o ≡ through c w o
   both-come c w (refused r) = both-refused r

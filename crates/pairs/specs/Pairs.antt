@@ -2,7 +2,7 @@
 use mathlib.Core.Bool.{Bool, true, false, _&&_, cond}
 use lib.Dec.{eqb}
 use lib.Ieee.{Format}
-use Rattle.floats.specs.Refusal.{taken, Outcome, refused, accepted}
+use Rattle.floats.specs.Refusal.{Outcome, refused, accepted}
 use Rattle.filter.specs.declared.Sheet.{Sheet}
 use Rattle.filter.specs.declared.Track.{Track}
 use Rattle.filter.specs.declared.Filter.{Filter}
@@ -86,6 +86,5 @@ put p Second a = record { pair = pair (a .filter .sheet) (p .first) (a .filter .
 -- the answer of a change of the sheet that the first side has answered by a and the second by b
 abbrev pub rewritten : Pair → Answer → Answer → PairAnswer
 rewritten p a b =
-    cond (eqb (a .refusal) 3) (record { pair = p; refusal = 3 })
-    (cond (eqb (b .refusal) 0) (record { pair = pair (a .filter .sheet) (a .filter .track) (b .filter .track); refusal = taken })
-    (record { pair = p; refusal = b .refusal }))
+    cond (eqb (a .refusal .number) 3) (record { pair = p; refusal = a .refusal })
+    (record { pair = cond (eqb (b .refusal .number) 0) (pair (a .filter .sheet) (a .filter .track) (b .filter .track)) p; refusal = b .refusal })

@@ -1,6 +1,7 @@
 // Two filters of one size on one settings sheet.
 use filter::Sheet;
 use filter::Track;
+use floats::Verdict;
 
 pub mod closes;
 pub mod new;
@@ -22,8 +23,8 @@ pub enum Side {
     Second,
 }
 
-// The next pair with the answer number.
+// The next pair with the answer's number and place.
 pub struct PairAnswer {
     pub pair: Pair,
-    pub refusal: u8,
+    pub refusal: Verdict,
 }

@@ -24,9 +24,12 @@ impl Pair {
         let a = Track::new(n, x1, p1);
         let b = Track::new(n, x2, p2);
         let c = Sheet::new(n, q, params);
-        let later = new::sooner(b.refusal, c.refusal);
-        let refusal = new::sooner(a.refusal, later);
-        if refusal != 0 {
+        let of_first = a.refusal;
+        let of_second = b.refusal;
+        let of_sheet = c.refusal;
+        let later = new::sooner(of_second, of_sheet);
+        let refusal = new::sooner(of_first, later);
+        if refusal.number != 0 {
             let sheet = new::empty_sheet();
             let track = new::empty_track();
             return PairAnswer {
@@ -47,7 +50,7 @@ impl Pair {
                 first,
                 second,
             },
-            refusal: 0,
+            refusal,
         }
     }
 }

@@ -10,9 +10,10 @@ use crate::Side;
 use crate::sides;
 use filter::ParamsRead;
 use filter::StaleRead;
+use floats::Verdict;
 
 impl Pair {
-    pub fn read_x(self, side: Side, out: &mut [f64]) -> u8
+    pub fn read_x(self, side: Side, out: &mut [f64]) -> Verdict
         ensures { λ r. ⌜ r ≡ pairStep binary64 self side (reading (read-x (now (out .entry)))) .reply .refusal ⌝ }
         ensures { λ r. ⌜ now (out .exit) ≡ over (pairStep binary64 self side (reading (read-x (now (out .entry)))) .reply .given) (now (out .entry)) ⌝ }
     {
@@ -20,7 +21,7 @@ impl Pair {
         f.read_x(out)
     }
 
-    pub fn read_p(self, side: Side, out: &mut [f64]) -> u8
+    pub fn read_p(self, side: Side, out: &mut [f64]) -> Verdict
         ensures { λ r. ⌜ r ≡ pairStep binary64 self side (reading (read-p (now (out .entry)))) .reply .refusal ⌝ }
         ensures { λ r. ⌜ now (out .exit) ≡ over (pairStep binary64 self side (reading (read-p (now (out .entry)))) .reply .given) (now (out .entry)) ⌝ }
     {
@@ -28,7 +29,7 @@ impl Pair {
         f.read_p(out)
     }
 
-    pub fn read_q(self, side: Side, out: &mut [f64]) -> u8
+    pub fn read_q(self, side: Side, out: &mut [f64]) -> Verdict
         ensures { λ r. ⌜ r ≡ pairStep binary64 self side (reading (read-q (now (out .entry)))) .reply .refusal ⌝ }
         ensures { λ r. ⌜ now (out .exit) ≡ over (pairStep binary64 self side (reading (read-q (now (out .entry)))) .reply .given) (now (out .entry)) ⌝ }
     {
@@ -36,7 +37,7 @@ impl Pair {
         f.read_q(out)
     }
 
-    pub fn read_points(self, side: Side, out: &mut [f64]) -> u8
+    pub fn read_points(self, side: Side, out: &mut [f64]) -> Verdict
         ensures { λ r. ⌜ r ≡ pairStep binary64 self side (reading (read-points (now (out .entry)))) .reply .refusal ⌝ }
         ensures { λ r. ⌜ now (out .exit) ≡ over (pairStep binary64 self side (reading (read-points (now (out .entry)))) .reply .given) (now (out .entry)) ⌝ }
     {

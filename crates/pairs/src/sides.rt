@@ -59,17 +59,16 @@ pub fn put(p: Pair, side: Side, a: Answer) -> PairAnswer
 pub fn rewritten(p: Pair, a: Answer, b: Answer) -> PairAnswer
     ensures { λ r. ⌜ r ≡ rewritten p a b ⌝ }
 {
-    if a.refusal == 3 {
+    let of_first = a.refusal;
+    if of_first.number == 3 {
         return PairAnswer {
             pair: p,
-            refusal: 3,
+            refusal: of_first,
         };
     }
-    if b.refusal != 0 {
-        return PairAnswer {
-            pair: p,
-            refusal: b.refusal,
-        };
+    let refusal = b.refusal;
+    if refusal.number != 0 {
+        return PairAnswer { pair: p, refusal };
     }
     let one = a.filter;
     let other = b.filter;
@@ -82,6 +81,6 @@ pub fn rewritten(p: Pair, a: Answer, b: Answer) -> PairAnswer
             first,
             second,
         },
-        refusal: 0,
+        refusal,
     }
 }

@@ -11,6 +11,7 @@ use angles::Kind;
 use angles::Residual;
 use filter::Filter;
 use filter::Stage;
+use floats::Verdict;
 use sigma::Params;
 
 // What is held, and how many bytes of answers wait.
@@ -29,15 +30,19 @@ pub fn bad(held: Held, out: &mut [u8], used: usize) -> Turn
     }
 }
 
-fn put_refusal(out: &mut [u8], used: usize, r: u8) -> usize {
-    script::put_decimal(out, used, r as u64)
+// A refusal, or 0, with its place.
+fn put_verdict(out: &mut [u8], used: usize, v: Verdict) -> usize {
+    let at = script::put_decimal(out, used, v.number as u64);
+    let at = script::put(out, at, b" ");
+    script::put_decimal(out, at, v.place as u64)
 }
 
-// A refusal, or 0, alone.
+// Number and place, alone.
 pub fn number(a: Done, out: &mut [u8], used: usize) -> Turn
     ensures { λ r. ⌜ r .held ≡ a .held ⌝ }
 {
-    let at = put_refusal(out, used, a.refusal);
+    let refusal = a.refusal;
+    let at = put_verdict(out, used, refusal);
     let held = a.held;
     Turn {
         held,
@@ -45,11 +50,12 @@ pub fn number(a: Done, out: &mut [u8], used: usize) -> Turn
     }
 }
 
-// A refusal, or 0, and all of a lent buffer.
+// Number and place, and all of a lent buffer.
 pub fn buffer(a: Done, lent: &[f64], out: &mut [u8], used: usize) -> Turn
     ensures { λ r. ⌜ r .held ≡ a .held ⌝ }
 {
-    let at = put_refusal(out, used, a.refusal);
+    let refusal = a.refusal;
+    let at = put_verdict(out, used, refusal);
     let at = script::put(out, at, b" ");
     let at = script::put_decimal(out, at, lent.len() as u64);
     let at = script::put_numbers(out, at, lent, lent.len());
@@ -101,11 +107,12 @@ fn put_points(out: &mut [u8], used: usize, label: &[u8], points: &[f64; 136], n:
     script::put_numbers(out, at, points, point_numbers(n))
 }
 
-// A close: a refusal, or 0 with x and P.
+// A close: number and place, and where accepted x and P.
 pub fn close(a: Done, whose: Whose, out: &mut [u8], used: usize) -> Turn
     ensures { λ r. ⌜ r .held ≡ a .held ⌝ }
 {
-    if a.refusal != 0 {
+    let refusal = a.refusal;
+    if refusal.number != 0 {
         return number(a, out, used);
     }
     let held = a.held;
@@ -113,7 +120,8 @@ pub fn close(a: Done, whose: Whose, out: &mut [u8], used: usize) -> Turn
     let n = filter.sheet.n;
     let x = filter.track.x;
     let p = filter.track.p;
-    let at = put_states(out, used, b"0 x", &x, n);
+    let at = put_verdict(out, used, refusal);
+    let at = put_states(out, at, b" x", &x, n);
     let at = put_matrix(out, at, b" P", &p, n);
     Turn {
         held,
@@ -127,12 +135,13 @@ fn put_params(out: &mut [u8], used: usize, params: Params) -> usize {
     script::put_number(out, at, params.kappa)
 }
 
-// A refusal, or 0, and the parameters.
+// Number and place, and the parameters.
 pub fn params(held: Held, whose: Whose, out: &mut [u8], used: usize) -> Turn
     ensures { λ r. ⌜ r .held ≡ held ⌝ }
 {
     let read = held::read_params(held, whose);
-    let at = put_refusal(out, used, read.refusal);
+    let refusal = read.refusal;
+    let at = put_verdict(out, used, refusal);
     let given = read.params;
     let at = put_params(out, at, given);
     Turn {
@@ -148,12 +157,13 @@ fn put_bit(out: &mut [u8], used: usize, b: bool) -> usize {
     script::put(out, used, b" 0")
 }
 
-// A refusal, or 0, and the stale mark.
+// Number and place, and the stale mark.
 pub fn stale(held: Held, whose: Whose, out: &mut [u8], used: usize) -> Turn
     ensures { λ r. ⌜ r .held ≡ held ⌝ }
 {
     let read = held::read_stale(held, whose);
-    let at = put_refusal(out, used, read.refusal);
+    let refusal = read.refusal;
+    let at = put_verdict(out, used, refusal);
     let at = put_bit(out, at, read.stale);
     Turn {
         held,
@@ -161,9 +171,9 @@ pub fn stale(held: Held, whose: Whose, out: &mut [u8], used: usize) -> Turn
     }
 }
 
-// A refusal and two 0s; or 0, where the part starts in its list, its length, and its numbers.
-pub fn point(refusal: u8, start: usize, part: &[f64], out: &mut [u8], used: usize) -> usize {
-    let at = put_refusal(out, used, refusal);
+// Number and place, where the part starts in its list, its length, and its numbers.
+pub fn point(refusal: Verdict, start: usize, part: &[f64], out: &mut [u8], used: usize) -> usize {
+    let at = put_verdict(out, used, refusal);
     let at = script::put(out, at, b" ");
     let at = script::put_decimal(out, at, start as u64);
     let at = script::put(out, at, b" ");
@@ -172,9 +182,9 @@ pub fn point(refusal: u8, start: usize, part: &[f64], out: &mut [u8], used: usiz
     script::put(out, at, b"\n")
 }
 
-// A refusal, or 0, and a number.
-pub fn value(refusal: u8, x: f64, out: &mut [u8], used: usize) -> usize {
-    let at = put_refusal(out, used, refusal);
+// Number and place, and a value.
+pub fn value(refusal: Verdict, x: f64, out: &mut [u8], used: usize) -> usize {
+    let at = put_verdict(out, used, refusal);
     let at = script::put_number(out, at, x);
     script::put(out, at, b"\n")
 }
@@ -217,7 +227,7 @@ fn put_values(out: &mut [u8], used: usize, filter: Filter) -> usize {
     let x = filter.track.x;
     let p = filter.track.p;
     let q = filter.sheet.q;
-    let at = script::put(out, used, b"0 n ");
+    let at = script::put(out, used, b"0 0 n ");
     let at = script::put_decimal(out, at, n as u64);
     let at = put_states(out, at, b" x", &x, n);
     let at = put_matrix(out, at, b" P", &p, n);

@@ -290,10 +290,10 @@ fn close_correction(
 fn point_of(n: usize, k: usize, list: &[f64], out: &mut [u8], used: usize) -> usize {
     let refusal = point::point_refusal(list, n, k);
     let part = point::point(list, n, k);
-    if refusal != 0 {
+    if refusal.number != 0 {
         return answers::point(refusal, 0, part, out, used);
     }
-    answers::point(0, answers::times(k, n), part, out, used)
+    answers::point(refusal, answers::times(k, n), part, out, used)
 }
 
 // point n k LIST
@@ -327,9 +327,10 @@ fn wrap(held: Held, s: &[u8], at: usize, out: &mut [u8], used: usize) -> Turn {
         return answers::bad(held, out, used);
     }
     let w = angles::wrap(d, h);
+    let refusal = w.refusal;
     Turn {
         held,
-        used: answers::value(w.refusal, w.value, out, used),
+        used: answers::value(refusal, w.value, out, used),
     }
 }
 
@@ -343,8 +344,8 @@ fn root(held: Held, s: &[u8], at: usize, out: &mut [u8], used: usize) -> Turn {
     }
     let r = root::square_root(value);
     let used = match r {
-        Root::Value(v) => answers::value(0, v, out, used),
-        Root::Refused => script::put(out, used, b"5\n"),
+        Root::Value(v) => answers::value(floats::placeless(0), v, out, used),
+        Root::Refused => script::put(out, used, b"56 0\n"),
     };
     Turn { held, used }
 }

@@ -5,6 +5,7 @@ use filter::Answer;
 use filter::Filter;
 use filter::ParamsRead;
 use filter::StaleRead;
+use floats::Verdict;
 use pairs::Pair;
 use pairs::PairAnswer;
 use pairs::Side;
@@ -22,10 +23,10 @@ pub enum Whose {
     On(Side),
 }
 
-// What a call has left, with the answer number.
+// What a call has left, with the answer's number and place.
 pub struct Done {
     pub held: Held,
-    pub refusal: u8,
+    pub refusal: Verdict,
 }
 
 // A call on the filter leaves the pair, and one on the pair the filter.
@@ -34,9 +35,10 @@ pub fn alone(held: Held, a: Answer) -> Done
 {
     let filter = a.filter;
     let pair = held.pair;
+    let refusal = a.refusal;
     Done {
         held: Held { filter, pair },
-        refusal: a.refusal,
+        refusal,
     }
 }
 
@@ -45,14 +47,15 @@ pub fn paired(held: Held, a: PairAnswer) -> Done
 {
     let filter = held.filter;
     let pair = a.pair;
+    let refusal = a.refusal;
     Done {
         held: Held { filter, pair },
-        refusal: a.refusal,
+        refusal,
     }
 }
 
 // A reading leaves both.
-fn read(held: Held, refusal: u8) -> Done
+fn read(held: Held, refusal: Verdict) -> Done
     ensures { λ r. ⌜ r ≡ record { held = held; refusal = refusal } ⌝ }
 {
     Done { held, refusal }

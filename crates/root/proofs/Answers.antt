@@ -6,7 +6,7 @@ use Prim.Native.Nat.{ℕ, zero, suc, _*_, _<_}
 use lib.IntN.{ℤ}
 use lib.Dec.{T, ltb→lt}
 use lib.Ieee.{Float, nan, inf, fin, Format, binary64, up, down, fits, lt}
-use Rattle.floats.specs.Refusal.{NUMBER, accepted, unless}
+use Rattle.floats.specs.Refusal.{badLone, accepted, unless}
 use Rattle.floats.specs.Numbers.{aboveZero}
 use Rattle.root.specs.Definition.{rootOf, rooted}
 use Rattle.root.specs.Nearest.{Nearest}
@@ -45,7 +45,7 @@ zero-own f s e = refl
 pub outcome-answer : (x : Float) → outcomeOf (answer x) ≡ rootOutcome binary64 x
 outcome-answer x = go (rooted x)
   where
-    go : (b : Bool) → outcomeOf (given b (rootOf binary64 x)) ≡ unless b NUMBER (accepted (rootOf binary64 x))
+    go : (b : Bool) → outcomeOf (given b (rootOf binary64 x)) ≡ unless b badLone (accepted (rootOf binary64 x))
     go true = refl
     go false = refl
 

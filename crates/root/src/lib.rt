@@ -1,5 +1,5 @@
 // IEEE 754's squareRoot of an f64, to nearest, worked from the bits: sign, exponent and fraction.
-// The answer is a root, or refusal 5 for a NaN, an infinity and what is below zero.
+// The answer is a root, or refusal 56 for a NaN, an infinity and what is below zero.
 ghost use mathlib.Core.Path.{_≡_};
 ghost use mathlib.Core.Bool.{true};
 ghost use Prim.Native.Nat.{ℕ, _*_, _^_, _≤_, _<_};

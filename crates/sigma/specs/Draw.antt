@@ -5,6 +5,7 @@ use mathlib.Core.List.{List}
 use lib.Dec.{leb}
 use lib.ListN.{getD}
 use lib.Ieee.{Float, nan, Format, add, sub, mul}
+use Rattle.floats.specs.declared.Verdict.{Verdict}
 use Rattle.floats.specs.Refusal.{PIVOT, Outcome, refusal, or}
 use Rattle.floats.specs.Numbers.{zeros}
 use Rattle.root.specs.Definition.{rootOf}
@@ -30,7 +31,7 @@ module _ (f : Format) (n : ℕ) (x l : List Float) (s : Float) where
 abbrev pub pointNumbers : ℕ → ℕ
 pointNumbers n = (n + n + 1) * n
 
--- the root of N, or 5
+-- the root of N, or 56
 abbrev pub rootWork : Format → Float → Work Float
 rootWork f scale = check (rooting scale) (made (rootOf f scale))
 
@@ -45,10 +46,10 @@ drawPlan f n x p scale =
 abbrev pub drawOf : Format → ℕ → List Float → List Float → Float → Outcome (List Float)
 drawOf f n x p scale = run (drawPlan f n x p scale)
 
--- refused by a number: +0 throughout
-abbrev pub undrawn : ℕ → Drawn
+-- refused: +0 throughout
+abbrev pub undrawn : Verdict → Drawn
 undrawn r = record { refusal = r; points = zeros 136 }
 
--- the answer: the number beside the points, +0 where refused
+-- the answer: the number and its place beside the points, +0 where refused
 abbrev pub drawn : Outcome (List Float) → Drawn
 drawn o = record { refusal = refusal o; points = or (zeros 136) o }

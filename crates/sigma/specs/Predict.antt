@@ -2,6 +2,7 @@
 use Prim.Native.Nat.{ℕ, _+_, _*_}
 use mathlib.Core.List.{List}
 use lib.Ieee.{Float, Format}
+use Rattle.floats.specs.declared.Verdict.{Verdict}
 use Rattle.floats.specs.Refusal.{Outcome, refusal, or}
 use Rattle.floats.specs.Numbers.{zeros}
 use Rattle.angles.specs.declared.Kind.{Kind}
@@ -30,10 +31,10 @@ module _ (f : Format) (n : ℕ) (points : List Float) (w0m : Float) (w : List Fl
 abbrev pub nothingMade : Moment
 nothingMade = record { x = zeros 8; p = zeros 64 }
 
--- refused by a number: +0 throughout
-abbrev pub unmade : ℕ → Moments
+-- refused: +0 throughout
+abbrev pub unmade : Verdict → Moments
 unmade r = record { refusal = r; x = zeros 8; p = zeros 64 }
 
--- the answer: the number beside x and P, +0 where refused
+-- the answer: the number and its place beside x and P, +0 where refused
 abbrev pub moments : Outcome Moment → Moments
 moments o = record { refusal = refusal o; x = or nothingMade o .x; p = or nothingMade o .p }

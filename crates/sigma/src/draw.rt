@@ -4,6 +4,7 @@ ghost use Prim.Native.Nat.{_+_, _<_, _≤_};
 ghost use lib.Ieee.{binary64};
 ghost use Rattle.sigma.specs.Draw.{pointAt, pointsOf, drawOf, drawn, undrawn};
 use crate::Drawn;
+use floats::Verdict;
 use matrix::factor;
 use matrix::factor::Pivots;
 use matrix::sums;
@@ -44,33 +45,36 @@ fn points(n: usize, x: &[f64; 8], l: &[f64; 64], s: f64) -> [f64; 136]
 }
 
 // A refused draw.
-fn refuse(refusal: u8) -> Drawn
-    ensures { λ r. ⌜ r ≡ undrawn refusal ⌝ }
+fn refuse(number: u8, place: usize) -> Drawn
+    ensures { λ r. ⌜ r ≡ undrawn (record { number = number; place = place }) ⌝ }
 {
     Drawn {
-        refusal,
+        refusal: Verdict { number, place },
         points: [0.0f64; 136],
     }
 }
 
-// The factor of P (7, 9), the root of N (5), and all points (9): the first refusal decides.
+// The factor of P (7, 9), the root of N (56), and all points (9): the first refusal decides.
 pub fn generate_sigma_points(n: usize, x: &[f64; 8], p: &[f64; 64], scale: f64) -> Drawn
     requires { ⌜ n ≤ 8 ⌝ }
     ensures { λ r. ⌜ r ≡ drawn (drawOf binary64 n (now (x .entry)) (now (p .entry)) scale) ⌝ }
 {
     let f = factor::cholesky_decompose_lower(p, n, Pivots::OfP);
-    if f.refusal != 0 {
-        return refuse(f.refusal);
+    if f.refusal.number != 0 {
+        return refuse(f.refusal.number, f.refusal.place);
     }
     let Root::Value(s) = root::square_root(scale) else {
-        return refuse(5);
+        return refuse(56, 0);
     };
     let q = points(n, x, &f.l, s);
     if !floats::all_finite(&q, (n + n + 1) * n) {
-        return refuse(9);
+        return refuse(9, 0);
     }
     Drawn {
-        refusal: 0,
+        refusal: Verdict {
+            number: 0,
+            place: 0,
+        },
         points: q,
     }
 }

@@ -1,6 +1,7 @@
 // Sigma points: the parameters and weights, the draw, the anchored mean, the spread, and the prediction made of them.
 ghost use mathlib.Core.Path.{_≡_};
 ghost use Prim.Native.Nat.{_+_, _*_, _<_, _≤_};
+use floats::Verdict;
 
 pub mod draw;
 pub mod mean;
@@ -15,15 +16,15 @@ pub struct Params {
     pub kappa: f64,
 }
 
-// What a draw answers: the number, and the points, +0 where it is refused.
+// What a draw answers: the number with its place, and the points, +0 where it is refused.
 pub struct Drawn {
-    pub refusal: u8,
+    pub refusal: Verdict,
     pub points: [f64; 136],
 }
 
-// What a close answers: the number, and x and P, +0 where it is refused.
+// What a close answers: the number with its place, and x and P, +0 where it is refused.
 pub struct Moments {
-    pub refusal: u8,
+    pub refusal: Verdict,
     pub x: [f64; 8],
     pub p: [f64; 64],
 }

@@ -7,14 +7,15 @@ use crate::Moments;
 use crate::mean;
 use crate::spread;
 use angles::Kind;
+use floats::Verdict;
 use matrix::sums;
 
 // A refused close.
-pub fn refuse(refusal: u8) -> Moments
-    ensures { λ r. ⌜ r ≡ unmade refusal ⌝ }
+pub fn refuse(number: u8, place: usize) -> Moments
+    ensures { λ r. ⌜ r ≡ unmade (record { number = number; place = place }) ⌝ }
 {
     Moments {
-        refusal,
+        refusal: Verdict { number, place },
         x: [0.0f64; 8],
         p: [0.0f64; 64],
     }
@@ -36,13 +37,17 @@ pub fn reconstruct_prediction(
     let nn = n * n;
     let x = mean::anchored_mean(points, n, t, w0m, w, kinds);
     if !floats::all_finite(&x, n) {
-        return refuse(9);
+        return refuse(9, 0);
     }
     let dx = spread::deviations(points, n, t, &x, kinds);
     let s = spread::spread(&dx, n, &dx, n, w, t);
     let p = sums::plus(nn, q, &s);
     if !floats::all_finite(&p, nn) {
-        return refuse(9);
+        return refuse(9, 0);
     }
-    Moments { refusal: 0, x, p }
+    let refusal = Verdict {
+        number: 0,
+        place: 0,
+    };
+    Moments { refusal, x, p }
 }

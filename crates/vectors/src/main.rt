@@ -1,11 +1,12 @@
 // Reads records on standard input and writes a line of answer to each. A record is a word that says what to run, then the words that this takes;
 // a word is 16 hex digits and a newline. An unknown first word or a bad word is answered `bad` and ends the run, as the end of the input does.
-// An answer is a refusal, or 0, then its numbers, each after a space. vectors/make.py writes what it reads here and what it must answer.
+// An answer is a refusal, or 0, with its place where there is one to tell, then its numbers, each after a space. vectors/make.py writes what it reads here and what it must answer.
 ghost use mathlib.Core.Path.{_≡_};
 ghost use Prim.Native.Nat.{_≤_};
 ghost use Rattle.vectors.specs.Lines.{lineOf};
 use angles::Kind;
 use angles::Residual;
+use floats::Verdict;
 use libc::STDIN_FILENO;
 use libc::STDOUT_FILENO;
 use matrix::factor;
@@ -91,11 +92,11 @@ fn put_byte(c: u8) {
     io::write_all(STDOUT_FILENO, &text);
 }
 
-// A refusal, or 0: one digit.
-fn put_refusal(r: u8) {
-    if r < 10 {
-        put_byte(48 + r);
-    }
+// A refusal, or 0, with its place.
+fn put_verdict(v: Verdict) {
+    io::print_decimal(STDOUT_FILENO, v.number as u64);
+    put_byte(32);
+    io::print_decimal(STDOUT_FILENO, v.place as u64);
 }
 
 // A space and the word of x.
@@ -137,10 +138,10 @@ fn answer_root() -> bool {
     let r = root::square_root(a[0]);
     match r {
         Root::Value(v) => {
-            put_refusal(0);
+            put_verdict(floats::placeless(0));
             put_number(v);
         }
-        Root::Refused => put_refusal(5),
+        Root::Refused => put_verdict(floats::placeless(56)),
     }
     end_line()
 }
@@ -152,7 +153,8 @@ fn answer_wrap() -> bool {
         return say_bad();
     }
     let w = angles::wrap(a[0], a[1]);
-    put_refusal(w.refusal);
+    let refusal = w.refusal;
+    put_verdict(refusal);
     put_number(w.value);
     end_line()
 }
@@ -170,8 +172,9 @@ fn answer_factor() -> bool {
         return say_bad();
     }
     let f = factor::cholesky_decompose_lower(&a, n, of);
-    put_refusal(f.refusal);
-    if f.refusal == 0 {
+    let refusal = f.refusal;
+    put_verdict(refusal);
+    if refusal.number == 0 {
         put_numbers(&f.l, cells(n, n));
     }
     end_line()
@@ -316,20 +319,23 @@ fn answer_draw() -> bool {
         return say_bad();
     }
     let d = draw::generate_sigma_points(n, &x, &p, weights::scale(n, g.params));
-    put_refusal(d.refusal);
-    if d.refusal == 0 {
+    let refusal = d.refusal;
+    put_verdict(refusal);
+    if refusal.number == 0 {
         put_numbers(&d.points, points(n, n));
     }
     end_line()
 }
 
 // What a close gives.
-fn put_moments(n: usize, q: Moments)
-    requires { ⌜ n ≤ 8 ⌝ }
-{
-    put_refusal(q.refusal);
-    if q.refusal == 0 {
-        put_numbers(&q.x, n);
+fn put_moments(n: usize, q: Moments) {
+    let refusal = q.refusal;
+    put_verdict(refusal);
+    if refusal.number != 0 {
+        return;
+    }
+    put_numbers(&q.x, n);
+    if n <= 8 {
         put_numbers(&q.p, cells(n, n));
     }
 }

@@ -96,18 +96,18 @@ fn stages() {
 }
 
 fn numbers() {
-    row("5", "x = NaN", x_and_p(&unmoved(one(NAN, 4.0, C1))));
-    row("5", "P = NaN (no pivot: the points are x -+ NaN)", x_and_p(&unmoved(one(2.0, NAN, C1))));
-    row("5", "P = infinity (the factor is left as it stands)", x_and_p(&unmoved(one(2.0, INFINITE, C1))));
-    row("5", "Q = NaN", x_and_p(&unmoved(Held::<1, 3>::new(&[2.0], &[4.0], &[NAN], C1))));
-    row("5", "kappa = NaN", x_and_p(&unmoved(one(2.0, 4.0, Params { kappa: NAN, ..C1 }))));
-    row("5", "z = NaN: P as if all were well", corrected(NAN, 12.0, [2.0, 4.0, 0.0]));
-    row("5", "z = infinity: P as if all were well", corrected(INFINITE, 12.0, [2.0, 4.0, 0.0]));
-    row("5", "R = infinity: x and P left as they were, silently", corrected(3.0, INFINITE, [2.0, 4.0, 0.0]));
-    row("5", "R = NaN", corrected(3.0, NAN, [2.0, 4.0, 0.0]));
-    row("5", "one observed number infinite", corrected(3.0, 12.0, [2.0, INFINITE, 0.0]));
-    row("5", "root of -1", format!("{:?}", MatrixDataType::square_root(-1.0_f64)));
-    row("5", "root of infinity", format!("{:?}", MatrixDataType::square_root(INFINITE)));
+    row("51", "x = NaN", x_and_p(&unmoved(one(NAN, 4.0, C1))));
+    row("52", "P = NaN (no pivot: the points are x -+ NaN)", x_and_p(&unmoved(one(2.0, NAN, C1))));
+    row("52", "P = infinity (the factor is left as it stands)", x_and_p(&unmoved(one(2.0, INFINITE, C1))));
+    row("53", "Q = NaN", x_and_p(&unmoved(Held::<1, 3>::new(&[2.0], &[4.0], &[NAN], C1))));
+    row("56", "kappa = NaN", x_and_p(&unmoved(one(2.0, 4.0, Params { kappa: NAN, ..C1 }))));
+    row("55", "z = NaN: P as if all were well", corrected(NAN, 12.0, [2.0, 4.0, 0.0]));
+    row("55", "z = infinity: P as if all were well", corrected(INFINITE, 12.0, [2.0, 4.0, 0.0]));
+    row("53", "R = infinity: x and P left as they were, silently", corrected(3.0, INFINITE, [2.0, 4.0, 0.0]));
+    row("53", "R = NaN", corrected(3.0, NAN, [2.0, 4.0, 0.0]));
+    row("54", "one observed number infinite", corrected(3.0, 12.0, [2.0, INFINITE, 0.0]));
+    row("56", "root of -1", format!("{:?}", MatrixDataType::square_root(-1.0_f64)));
+    row("56", "root of infinity", format!("{:?}", MatrixDataType::square_root(INFINITE)));
 }
 
 fn parameters() {
@@ -197,7 +197,7 @@ fn setting(name: &str, rust: impl FnOnce(&mut Held<1, 3>), ours: impl FnOnce(&mu
     };
     row("", name, format!("published {given}, points {points:?}"));
     let told = taken().unwrap_or_else(|trouble| match trouble {
-        Trouble::Refused(stop) => format!("refused by {} ({})", stop.number, stop.step),
+        Trouble::Refused(refusal) => format!("refused by {} at {} ({})", refusal.number(), refusal.place(), refusal.step()),
         Trouble::Parted(why) => panic!("{why}"),
     });
     row("", "", format!("documents {told}"));

@@ -6,12 +6,31 @@ use std::path::{Path, PathBuf};
 use std::process::ExitCode;
 
 use oracle::coverage::{
-    beside_partner, count, count_with, faulty_changes, holes, numbers, refused_with, sheet_changes, CORRECTIONS, STAGES, STEPS,
+    beside_partner, count, count_with, faulty_changes, holes, numbers, refused_with, searches, sheet_changes, with_rest, CORRECTIONS,
+    PIVOTS, SEARCHED, STAGES, STEPS,
 };
 use oracle::pair::Side;
+use oracle::places::{self, AFTER_PARAM, AFTER_PLAIN, SECOND, SEVERAL, SPOTS};
 use oracle::script::{Reader, Table, BAD, IN_USE, SETTERS, SHEET, STALE};
 
-const NAMES: [&str; 11] = ["accepted", "SIZE", "SHORT", "STAGE", "STALE", "NUMBER", "PARAM", "PIVOT", "INNOV", "RANGE", "KIND"];
+const NAMES: [(u8, &str); 16] = [
+    (0, "accepted"),
+    (1, "SIZE"),
+    (2, "SHORT"),
+    (3, "STAGE"),
+    (4, "STALE"),
+    (51, "NUMBER state"),
+    (52, "NUMBER covariance"),
+    (53, "NUMBER noise"),
+    (54, "NUMBER points"),
+    (55, "NUMBER measurement"),
+    (56, "NUMBER lone value"),
+    (10, "KIND"),
+    (6, "PARAM"),
+    (7, "PIVOT"),
+    (8, "INNOV"),
+    (9, "RANGE"),
+];
 
 /// How many differing answers are shown.
 const SHOWN: u64 = 5;
@@ -19,6 +38,7 @@ const SHOWN: u64 = 5;
 #[derive(Default)]
 struct Figures {
     table: Table,
+    places: Table,
     calls: u64,
     compared: u64,
     numbers: u64,
@@ -83,8 +103,10 @@ impl Figures {
         if let Some(more) = theirs.map(Iterator::count).filter(|more| *more > 0) {
             self.differ(&path.display().to_string(), "", "(no more calls)", &format!("{more} more answers"));
         }
-        for (key, count) in reader.table {
-            *self.table.entry(key).or_default() += count;
+        for (sum, met) in [(&mut self.table, reader.table), (&mut self.places, reader.places)] {
+            for (key, count) in met {
+                *sum.entry(key).or_default() += count;
+            }
         }
         Ok(())
     }
@@ -99,21 +121,21 @@ impl Figures {
 
     fn print(&self) {
         let total = |number: u8| numbers().map(|(call, _)| count(&self.table, &call, number)).sum::<u64>();
-        println!("calls             {:>10}", self.calls);
-        for (number, name) in NAMES.iter().enumerate() {
-            println!("  {number:<2} {name:<12} {:>10}", total(number as u8));
+        println!("calls                   {:>10}", self.calls);
+        for (number, name) in NAMES {
+            println!("  {number:<2} {name:<18} {:>10}", total(number));
         }
-        println!("  no call (bad)   {:>10}", count(&self.table, "bad", BAD));
-        println!("answers compared  {:>10}", self.compared);
-        println!("numbers compared  {:>10}", self.numbers);
-        println!("differences       {:>10}", self.differences);
+        println!("  no call (bad)         {:>10}", count(&self.table, "bad", BAD));
+        println!("answers compared        {:>10}", self.compared);
+        println!("numbers compared        {:>10}", self.numbers);
+        println!("differences             {:>10}", self.differences);
 
-        let columns = 0..NAMES.len() as u8;
-        println!("\n{:<11}{}", "call", columns.clone().map(|number| format!("{number:>7}")).collect::<String>());
+        println!("\n{:<11}{}", "call", NAMES.map(|(number, _)| format!("{number:>7}")).concat());
         for (call, numbers) in numbers() {
             let cell = |number: u8| if numbers.contains(&number) { count(&self.table, &call, number).to_string() } else { ".".into() };
-            println!("{call:<11}{}", columns.clone().map(|number| format!("{:>7}", cell(number))).collect::<String>());
+            println!("{call:<11}{}", NAMES.map(|(number, _)| format!("{:>7}", cell(number))).concat());
         }
+        self.print_places();
         println!("\nwhere calls stopped");
         for (call, steps) in STEPS {
             for (number, step) in steps {
@@ -152,7 +174,38 @@ impl Figures {
                 line(&format!("{name}, m={m}"), &|n| count_with(&self.table, call, 0, &format!("n={n} m={m}")));
             }
         }
-        let holes = holes(&self.table);
+        let holes = holes(&self.table, &self.places);
         println!("\nnot met           {}", if holes.is_empty() { "nothing".to_string() } else { holes.join("; ") });
+    }
+
+    /// What request A5's places were told among: the first bad number's place, what else was bad, and bad numbers past what an accepted call needs.
+    fn print_places(&self) {
+        let mut words: Vec<String> = SPOTS.iter().chain(&[SEVERAL, SECOND]).map(|word| word.to_string()).collect();
+        words.extend((51..=56).chain([10, 6]).map(places::before));
+        let line = |name: &str, cells: Vec<String>| {
+            println!("{name:<26}{}", cells.iter().map(|cell| format!("{cell:>10}")).collect::<String>());
+        };
+        println!();
+        line("where the bad number stood", [words.clone(), vec!["past it".into()]].concat());
+        for (call, numbers) in SEARCHED {
+            for number in (51..=56).filter(|number| numbers.contains(number)) {
+                let can = searches(call, number);
+                let cell = |can: bool, number: u8, word: &str| match can {
+                    true => count_with(&self.places, call, number, word).to_string(),
+                    false => ".".into(),
+                };
+                let mut cells: Vec<String> = words.iter().map(|word| cell(can.contains(word), number, word)).collect();
+                cells.push(cell(with_rest(call, number), 0, &places::past(number)));
+                line(&format!("{call:<10}{number}"), cells);
+            }
+        }
+        for word in [AFTER_PLAIN, AFTER_PARAM] {
+            println!("closec    56 {word}: {}", count_with(&self.places, "closec", 56, word));
+        }
+        println!("\npivots by row");
+        for (call, number, rows) in PIVOTS {
+            let counts = (0..rows).map(|row| format!("{:>7}", count_with(&self.places, call, number, &places::row(row))));
+            println!("{call:<10}{number}{}", counts.collect::<String>());
+        }
     }
 }

@@ -9,20 +9,24 @@ use Rattle.angles.proofs.wrap.Tie as tie
 
 returns : tie.Need-returns
 unfolding wrapOf ofBits
-returns c = rw (sym (c .before .all-finite .ensures) ∙ not-true _ (c .if1 .taken))
+returns c = rw (c .placeless .ensures, sym (c .before .before .all-finite .ensures) ∙ not-true _ (c .before .if1 .taken))
 
 returns-2 : tie.Need-returns-2
 unfolding wrapOf ofBits
-returns-2 c = rw (sym (c .before .before .before .all-finite .ensures) ∙ not-false _ (c .before .before .if1 .left), sym (c .before .is-half-turn .ensures) ∙ not-true _ (c .if2 .taken))
+returns-2 c =
+    let d = c .before in
+    rw (c .placeless2 .ensures, sym (d .before .before .before .all-finite .ensures) ∙ not-false _ (d .before .before .if1 .left), sym (d .before .is-half-turn .ensures) ∙ not-true _ (d .if2 .taken))
 
 returns-3 : tie.Need-returns-3
 unfolding wrapOf ofBits
 returns-3 c =
+    let d = c .before .before in
     rw (
-      sym (c .before .before .before .before .all-finite .ensures) ∙ not-false _ (c .before .before .before .if1 .left),
-      sym (c .before .before .is-half-turn .ensures) ∙ not-false _ (c .before .if2 .left),
+      c .before .placeless3 .ensures,
+      sym (d .before .before .before .all-finite .ensures) ∙ not-false _ (d .before .before .if1 .left),
+      sym (d .before .is-half-turn .ensures) ∙ not-false _ (d .if2 .left),
       c .wrap-step .ensures,
     )
 
 pub wrap-spec : {M : Type 1} → statement M
-wrap-spec = tie.close (tie.spec (λ c. search needs) (λ c κs. search needs) returns (λ c κs. search needs) returns-2 (λ c κs. search needs) returns-3)
+wrap-spec = tie.close (tie.spec (λ c. search needs) (λ c κs. search needs) (λ c κs. search needs) returns (λ c κs. search needs) (λ c κs. search needs) returns-2 (λ c κs. search needs) (λ c κs. search needs) returns-3)

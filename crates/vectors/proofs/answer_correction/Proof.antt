@@ -16,9 +16,6 @@ center-weight-requires c κs = let b = c .before .before .before .before .before
 correct-with-weights-residuals-requires : tie.Need-correct-with-weights-residuals-requires
 correct-with-weights-residuals-requires c κs = let b = c .before .before .before .before .before .before .before .before .before .before .before .before .before .before .before .before .before .before .before .before .before .before .before .before .before .before .before .before .before .before .before .before .before .before .before .before .before .before .before .before .before .before .before .before .before .before .before .before .before .before .before .before .before in omega (arith, b .next-count2 .ensures, b .before .next-count .ensures)
 
-put-moments-requires : tie.Need-put-moments-requires
-put-moments-requires c κs = let b = c .before .before .before .before .before .before .before .before .before .before .before .before .before .before .before .before .before .before .before .before .before .before .before .before .before .before .before .before .before .before .before .before .before .before .before .before .before .before .before .before .before .before .before .before .before .before .before .before .before .before .before .before .before .before in omega (arith, b .next-count2 .ensures, b .before .next-count .ensures)
-
 pub answer-correction-spec : {M : Type 1} → statement M
 answer-correction-spec =
     tie.close
@@ -69,6 +66,6 @@ answer-correction-spec =
     (λ c. search needs)
     center-weight-requires
     correct-with-weights-residuals-requires
-    put-moments-requires
+    (λ c κs. search needs)
     (λ c κs. search needs)
     (λ c. search needs))

@@ -1,4 +1,4 @@
-//! Calls that are refused on their face (1 to 6 and 10), lines that are no calls, and calls by pure chance.
+//! Calls that are refused on their face (1 to 4, 51 to 56, 10 and 6), lines that are no calls, and calls by pure chance.
 
 use oracle::coverage::{count, count_with, FAULTS};
 use oracle::filter::{list_length, Open};
@@ -6,14 +6,19 @@ use oracle::kinds::Kind;
 use oracle::script::{before, named, LINE, SHEET};
 use oracle::steps::{Average, Params};
 
-use crate::maker::{float, kind, params, written, Fault, Made, Maker};
+use crate::maker::{close_of, float, kind, params, written, Fault, Made, Maker};
 
 impl Maker {
     /// One fault, at times more than one, so that their order shows. The call answers each by its number; the first is mostly one that it gave least often.
     fn faults(&mut self, call: &str, numbers: &[u8]) -> Vec<bool> {
-        let met: Vec<u64> = numbers.iter().map(|number| count(&self.reader.table, call, *number)).collect();
+        let name = self.name_of(call);
+        let met: Vec<u64> = numbers.iter().map(|number| count(&self.reader.table, &name, *number)).collect();
         let mut faults = vec![false; numbers.len()];
-        faults[self.rare(&met)] = true;
+        let first = self.rare(&met);
+        faults[first] = true;
+        if numbers[first] > 50 && self.random.chance(50) {
+            self.spoil_later(call, numbers, first, &mut faults);
+        }
         for _ in 0..self.random.pick(&[0, 0, 0, 1, 2]) {
             let at = self.random.below(numbers.len());
             faults[at] = true;
@@ -21,10 +26,11 @@ impl Maker {
         faults
     }
 
-    fn fault(&mut self, short: bool, number: bool) -> Fault {
+    /// The fault of a list: that it is short, or a bad number in the slice with this number.
+    fn fault(&mut self, call: &str, short: bool, number: Option<u8>) -> Fault {
         match (short, number) {
             (true, _) => Fault::Short,
-            (_, true) => Fault::Number,
+            (_, Some(number)) => Fault::Number(self.spot(call, number)),
             _ => Fault::None,
         }
     }
@@ -36,25 +42,27 @@ impl Maker {
 
     /// New with faults, and what the empty filter then answers.
     pub fn refused_new(&mut self, n: usize) -> Made<()> {
-        for _ in 0..self.random.between(1, 3) {
+        // A pair's New has more slices, and fewer episodes.
+        let [least, most] = if self.on.is_some() { [5, 10] } else { [3, 6] };
+        for turn in 0..self.random.between(least, most) {
+            let aimed = turn % 3 != 0;
+            let n = if aimed { n.max(3) } else { n };
             let lists = [self.random.vector(n, 1.0), self.random.covariance(n, 1.0), self.random.noise(n, 1.0)];
             let (name, lists) = self.new_lists(n, 1.0, lists);
             let count = lists.len();
+            let slices = if count == 3 { vec![51, 52, 53] } else { vec![51, 52, 51, 52, 53] };
             // Of n, of each list its length and a number, of the parameters a number and all three together.
-            let numbers: Vec<u8> = [vec![1], vec![2; count], vec![5; count], vec![5, 6]].concat();
-            let f = self.faults(name, &numbers);
+            let numbers: Vec<u8> = [vec![1], vec![2; count], slices.clone(), vec![56, 6]].concat();
+            let f = if aimed { self.bad_slices(name, &numbers) } else { self.faults(name, &numbers) };
             let par = if f[2 * count + 2] { self.random.failing_params(n) } else { self.random.params(n) };
-            let mut three = [par.alpha, par.beta, par.kappa];
-            if f[2 * count + 1] {
-                three[self.random.below(3)] = self.random.not_finite();
-            }
+            let par = if f[2 * count + 1] { self.bad_params(name, par) } else { par };
             let size = if f[0] { self.no_size(8) } else { n as u64 };
             let mut line = format!("{name} {size}");
             for (at, list) in lists.iter().enumerate() {
-                let fault = self.fault(f[1 + at], f[1 + count + at]);
+                let fault = self.fault(name, f[1 + at], f[1 + count + at].then_some(slices[at]));
                 line = format!("{line} {}", self.list(list, fault));
             }
-            self.tell(line + &params(Params { alpha: three[0], beta: three[1], kappa: three[2] }))?;
+            self.tell(line + &params(par))?;
         }
         self.on_the_empty_filter()
     }
@@ -88,7 +96,8 @@ impl Maker {
     }
 
     pub fn faulty_close_prediction(&mut self, propagated: &[f64]) -> Made<()> {
-        let fault = self.random.pick(&[Fault::Short, Fault::Number]);
+        let spot = self.spot("closep", 54);
+        let fault = self.random.pick(&[Fault::Short, Fault::Number(spot)]);
         let line = format!("closep {}", self.list(propagated, fault));
         self.say(line)?;
         self.after_refusal()
@@ -96,26 +105,29 @@ impl Maker {
 
     /// Faults in either close; on a filter with a turn the flat one has that fault besides.
     pub fn faulty_close_correction(&mut self, z: &[f64], r: &[f64], measured: &[Kind], observed: &[f64]) -> Made<()> {
-        let (m, average) = (z.len(), self.average());
-        // Of m, of z, R and the points their lengths and numbers, of a pivot; the last two are faults of measurement kinds, which the flat close hasn't.
-        let numbers = [1, 2, 2, 2, 5, 5, 5, 8, 6, 5];
-        let f = match average {
-            Average::Weighted => self.faults(&named(self.on, "closec"), &numbers),
-            Average::Flat => self.faults(&named(self.on, "closef"), &numbers[..8]),
-        };
+        let average = self.average();
+        let faults = self.faults(close_of(average), faults_of(average));
+        self.faulty_close(average, &faults, z, r, measured, observed)
+    }
+
+    /// A close of a correction with these of its faults.
+    pub fn faulty_close(&mut self, average: Average, f: &[bool], z: &[f64], r: &[f64], measured: &[Kind], observed: &[f64]) -> Made<()> {
+        let (m, call) = (z.len(), close_of(average));
         let mut measured = measured.to_vec();
-        if f.get(8) == Some(&true) {
+        if f.get(9) == Some(&true) {
             measured[self.random.below(m)] = Kind::Turn(self.random.failing_half_turn());
         }
-        if f.get(9) == Some(&true) {
-            measured[self.random.below(m)] = Kind::Turn(self.random.not_finite());
+        if f.get(8) == Some(&true) {
+            self.bad_half_turns(&mut measured);
         }
         let size = if f[0] { self.no_size(4) } else { m as u64 };
-        let (fz, fr, fo) = (self.fault(f[1], f[4]), self.fault(f[2], f[5]), self.fault(f[3], f[6]));
+        let fz = self.fault(call, f[1], f[7].then_some(55));
+        let fr = self.fault(call, f[2], f[5].then_some(53));
+        let fo = self.fault(call, f[3], f[6].then_some(54));
         let mut r = r.to_vec();
-        if f[7] {
+        if f[4] {
             // A pivot that isn't above 0: first or last of the refusals.
-            let at = self.random.below(m);
+            let at = self.rare_row(call, 8, m);
             r[at * m + at] = -f64::MAX;
         }
         let lists = [self.list(z, fz), self.list(&r, fr), self.list(observed, fo)];
@@ -144,8 +156,13 @@ impl Maker {
             .collect();
         let met: Vec<u64> = faults.iter().map(|(call, number)| self.met_fault(call, *number)).collect();
         let (call, number) = faults[self.rare(&met)];
+        self.faulty_set(call, number)
+    }
+
+    /// A setter with the fault that has this number.
+    pub fn faulty_set(&mut self, call: &str, number: u8) -> Made<()> {
         let n = self.n().max(1);
-        let fault = if number == 2 { Fault::Short } else { Fault::Number };
+        let fault = self.fault(call, number == 2, Some(number));
         let line = match call {
             "setx" => {
                 let x = self.random.vector(n, 1.0);
@@ -161,13 +178,13 @@ impl Maker {
             }
             "setpar" => {
                 let par = self.random.failing_params(n);
-                let par = if number == 6 { par } else { Params { beta: self.random.not_finite(), ..par } };
+                let par = if number == 6 { par } else { self.bad_params(call, par) };
                 format!("setpar{}", params(par))
             }
             _ => {
                 let i = if number == 1 { self.no_size(n as u64).max(n as u64) } else { self.random.below(n) as u64 };
                 // Out of range, either fault of h comes later.
-                let not_finite = number == 5 || number == 1 && self.random.chance(40);
+                let not_finite = number == 56 || number == 1 && self.random.chance(40);
                 let h = if not_finite { self.random.not_finite() } else { self.random.failing_half_turn() };
                 format!("setkind {i} {}", kind(Kind::Turn(h)))
             }
@@ -179,7 +196,8 @@ impl Maker {
     /// A close that doesn't fit what is open, or does while nothing or the other is.
     pub fn wrong_close(&mut self) -> Made<()> {
         let list = vec![1.0; list_length(self.n().max(1))];
-        let fault = self.random.pick(&[Fault::None, Fault::Short, Fault::Number]);
+        let spot = self.any_spot();
+        let fault = self.random.pick(&[Fault::None, Fault::Short, Fault::Number(spot)]);
         let line = if self.filter().open == Open::Correction || self.random.chance(50) {
             format!("closep {}", self.list(&list, fault))
         } else {
@@ -350,7 +368,8 @@ impl Maker {
             1 => (0..length).map(|_| self.random.odd()).collect(),
             _ => (0..length).map(|_| self.random.sized(unit)).collect(),
         };
-        let fault = if self.random.chance(5) { self.random.pick(&[Fault::Short, Fault::Number]) } else { Fault::None };
+        let spot = self.any_spot();
+        let fault = if self.random.chance(5) { self.random.pick(&[Fault::Short, Fault::Number(spot)]) } else { Fault::None };
         self.list(&numbers, fault)
     }
 
@@ -369,5 +388,15 @@ impl Maker {
             }
         }
         Ok(())
+    }
+}
+
+/// What can be wrong in a close of a correction: m, the lengths of z, R and the points, a pivot, numbers in R, the points and z;
+/// of the weighted close a half-turn that isn't finite, and one that is no half-turn.
+pub fn faults_of(average: Average) -> &'static [u8] {
+    const ALL: [u8; 10] = [1, 2, 2, 2, 8, 53, 54, 55, 56, 6];
+    match average {
+        Average::Weighted => &ALL,
+        Average::Flat => &ALL[..8],
     }
 }

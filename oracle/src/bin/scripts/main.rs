@@ -7,6 +7,7 @@ mod numbers;
 mod overflows;
 mod pairs;
 mod rounds;
+mod searches;
 
 use std::process::ExitCode;
 

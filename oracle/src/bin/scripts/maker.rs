@@ -11,6 +11,7 @@ use oracle::script::{bits, named, Reader, BAD};
 use oracle::steps::{Average, Params};
 
 use crate::numbers::Random;
+use crate::searches::Spot;
 
 /// Why the making ends.
 pub enum End {
@@ -38,7 +39,7 @@ pub struct Maker {
 pub enum Fault {
     None,
     Short,
-    Number,
+    Number(Spot),
 }
 
 impl Maker {
@@ -72,7 +73,10 @@ impl Maker {
             self.episodes[usize::from(paired)] += 1;
             let n = 1 + (at % 8) as usize;
             match at % 11 {
-                0 => self.refused_new(n)?,
+                0 => {
+                    self.refused_new(n)?;
+                    self.refused_searches(n)?;
+                }
                 4 if paired => self.refused_new(n)?,
                 3 | 7 => self.wild(n)?,
                 2 | 4 | 6 | 9 => self.overflow(n)?,
@@ -157,11 +161,8 @@ impl Maker {
                 }
                 return written(&numbers);
             }
-            Fault::Number if !numbers.is_empty() => {
-                let at = self.random.below(numbers.len());
-                numbers[at] = self.random.not_finite();
-            }
-            _ => {}
+            Fault::Number(spot) => self.spoil(&mut numbers, spot),
+            Fault::None => {}
         }
         if self.random.chance(25) {
             let more = if self.random.chance(4) { 512 - numbers.len() } else { 1 + self.random.below(4) };
@@ -276,7 +277,7 @@ impl Maker {
     }
 }
 
-fn close_of(average: Average) -> &'static str {
+pub fn close_of(average: Average) -> &'static str {
     match average {
         Average::Weighted => "closec",
         Average::Flat => "closef",

@@ -1,7 +1,7 @@
 //! A small generator of pseudo-random numbers (splitmix64) and the numbers that scripts are made of.
 //! Only exact and correctly rounded operations are used, so a seed gives the same script everywhere.
 
-use oracle::steps::{Params, Weights};
+use oracle::steps::{all_finite, Params, Weights};
 
 pub struct Random(u64);
 
@@ -157,7 +157,7 @@ impl Random {
                 _ => (self.within(0.3, 1.5) * self.sign(), self.within(-1.0, 3.0), self.within(0.2 - states, 5.0)),
             };
             let par = Params { alpha, beta, kappa };
-            if all_finite_params(par) && Weights::of(n, par).pass() {
+            if all_finite(&par.numbers()) && Weights::of(n, par).pass() {
                 return par;
             }
         }
@@ -200,8 +200,4 @@ impl Random {
     pub fn failing_half_turn(&mut self) -> f64 {
         self.pick(&[0.0, -0.0, -180.0, -f64::from_bits(1), f64::from_bits(0x7fe0_0000_0000_0000), f64::MAX, -f64::MAX])
     }
-}
-
-fn all_finite_params(par: Params) -> bool {
-    oracle::steps::all_finite(&[par.alpha, par.beta, par.kappa])
 }

@@ -5,7 +5,7 @@ use oracle::kinds::Kind;
 use oracle::script::named;
 use oracle::steps::{Average, Params, Weights};
 
-use crate::maker::{params, Fault, Made, Maker};
+use crate::maker::{close_of, params, Fault, Made, Maker};
 use crate::rounds::power;
 
 const TINY: f64 = 1.0e-300;
@@ -17,8 +17,12 @@ const PLAIN: [Kind; 4] = [Kind::Plain; 4];
 impl Maker {
     pub fn overflow(&mut self, n: usize) -> Made<()> {
         let aim = self.aim();
-        // One state has no entry below the diagonal.
-        let n = if aim == 23 { n.max(2) } else { n };
+        // One state has no entry below the diagonal; a row wants as many states.
+        let n = match aim {
+            22 => n.max(1 + self.rare_row("openp", 7, 8)),
+            23 => n.max(2),
+            _ => n,
+        };
         // These weigh exactly (N is a power of two), so that means of equal points are those points.
         let exact = Params { alpha: 1.0, beta: 0.0, kappa: self.random.pick(&[8.0, 16.0]) - n as f64 };
         let lists = [self.random.vector(n, 1.0), diagonal(n, 4.0), diagonal(n, 1.0)];
@@ -78,7 +82,7 @@ impl Maker {
         }
     }
 
-    fn set_p(&mut self, p: &[f64]) -> Made<u8> {
+    pub fn set_p(&mut self, p: &[f64]) -> Made<u8> {
         let line = format!("setp {}", self.list(p, Fault::None));
         self.say(line)
     }
@@ -101,22 +105,14 @@ impl Maker {
     }
 
     /// 1.0 to 10.0 times `size`, of either sign.
-    fn about(&mut self, size: f64) -> f64 {
+    pub fn about(&mut self, size: f64) -> f64 {
         self.random.within(1.0, 10.0) * size * self.random.sign()
     }
 
-    fn pivot_of_p(&mut self) -> Made<()> {
+    pub fn pivot_of_p(&mut self) -> Made<()> {
         let n = self.n();
-        let mut p = self.random.covariance(n, 1.0);
-        let at = self.random.below(n);
-        p[at * n + at] = self.random.pick(&[0.0, -0.0, -1.0, -f64::from_bits(1), -MAX]);
-        if n > 1 && self.random.chance(40) {
-            // The square of an entry overflows: the pivot isn't finite.
-            p[at * n + at] = 1.0;
-            p[n - 1] = 0.0;
-            p[(n - 1) * n] = self.about(1.0e160);
-            p[0] = 1.0;
-        }
+        let (mut p, row) = (self.random.covariance(n, 1.0), self.rare_row("openp", 7, n));
+        self.bad_pivot(&mut p, n, row);
         self.set_p(&p)?;
         self.open_both()
     }
@@ -314,20 +310,20 @@ impl Maker {
     }
 
     fn pivot_of_s(&mut self, average: Average, m: usize) -> Made<()> {
-        let mut observed = self.opened_correction(m)?;
-        let mut r = self.random.covariance(m, 1.0);
-        let j = self.random.below(m);
-        r[j * m + j] = self.random.pick(&[0.0, -0.0, -1.0, -f64::from_bits(1), -MAX]);
-        if m > 1 && self.random.chance(40) {
-            r[0] = 1.0;
-            r[(m - 1) * m] = self.about(1.0e160);
+        self.open_correction()?;
+        // Refused, the call stays open for more.
+        for _ in 0..3 {
+            let row = self.rare_row(close_of(average), 8, 4);
+            let m = m.max(row + 1);
+            let (mut observed, mut z) = (vec![0.0; m * (2 * self.n() + 1)], vec![0.0; m]);
+            let mut r = self.random.covariance(m, 1.0);
+            self.bad_pivot(&mut r, m, row);
+            if self.random.chance(50) {
+                // y would overflow too, but later.
+                self.far_apart(&mut observed, &mut z);
+            }
+            self.close_correction(average, &z, &r, &PLAIN[..m], &observed)?;
         }
-        let mut z = vec![0.0; m];
-        if self.random.chance(50) {
-            // y would overflow too, but later.
-            self.far_apart(&mut observed, &mut z);
-        }
-        self.close_correction(average, &z, &r, &PLAIN[..m], &observed)?;
         Ok(())
     }
 

@@ -1,25 +1,23 @@
 -- `Filter::close_correction` meets its contract. Assumes nothing.
-use Prim.Native.Nat.{_*_}
 use mathlib.Core.Path.{_≡_, refl, ap, ap₂, _∙_}
-use mathlib.Core.Bool.{Bool, true, _&&_}
-use mathlib.Core.List.{_++_}
+use mathlib.Core.Bool.{true}
+use mathlib.Core.List.{List}
 use borrow.Author.Needs.{needs}
 use denote.Ref.{now}
 use lib.ListN.{take}
 use lib.Ieee.{Float, binary64}
-use Rattle.floats.specs.Numbers.{allFinite}
+use Rattle.floats.specs.Search.{searched}
 use Rattle.matrix.specs.Results.{run}
 use Rattle.sigma.specs.Predict.{moments}
 use Rattle.correction.specs.Leaves.{widened}
 use Rattle.correction.specs.Correct.{applyPlan, given, correctOf}
-use Rattle.filter.specs.Calls.{Call, closing, close-correction, inKinds, observedNumbers, weightedFrom}
-use Rattle.filter.specs.declared.measurement.Measurement.{Measurement}
+use Rattle.filter.specs.Calls.{Call, closing, close-correction, inputsMeasured, weightedFrom}
+use Rattle.filter.specs.declared.measurement.Intake.{Intake}
 use Rattle.filter.specs.Measurement.{Lending}
-use Rattle.filter.proofs.KindTests.{all-clear, all-pass}
+use Rattle.filter.proofs.KindTests.{all-pass, halves-take}
 use Rattle.filter.proofs.Order.{tested}
-use Rattle.filter.proofs.Lines.{finite-third, third-finite}
 use Rattle.filter.proofs.Taken.{Told, turned-away, all-passed}
-use Rattle.filter.proofs.Measuring.{Lent, number-in-order, sizes-in, taken-in}
+use Rattle.filter.proofs.Measuring.{Lent, told-in-order, sizes-in, taken-in}
 use Rattle.filter.proofs.Closing.{correcting-is, closes-so}
 use Rattle.filter.proofs.Filter.close_correction.Statement.{statement}
 use Rattle.filter.proofs.Filter.close_correction.Tie as tie
@@ -28,47 +26,46 @@ abbrev call : tie.Start → Call
 call s = closing (close-correction (s .args .m) (now (s .args .z)) (now (s .args .r)) (s .args .kinds) (now (s .args .observed)))
 
 abbrev start : tie.After-take-in → tie.Start
-start c = c .before .before .before .before .before .before .before .before .before
+start c = c .before .before .before .before .before .before .before .before .before .before
 
 abbrev lending : tie.After-take-in → Lending
-lending c = let a = start c .args in record { fits = c .before .before .before .is-correcting .result; n = a .self .sheet .n; m = a .m; z = now (a .z); r = now (a .r); observed = now (a .observed); turns = c .before .before .no-kind-refused .result; plain = true; passing = c .before .no-kind-refused2 .result }
+lending c = let a = start c .args in record { fits = c .before .before .before .before .is-correcting .result; n = a .self .sheet .n; m = a .m; z = now (a .z); r = now (a .r); observed = now (a .observed); turns = take (a .m) (c .before .before .before .halves .result); plain = true; passing = c .before .before .kinds-pass .result }
 
 abbrev lent : (c : tie.After-take-in) → Lent (lending c) (c .take-in .result)
 lent c = record { is = c .take-in .ensures }
 
 abbrev asked : (c : tie.After-take-in) → Told binary64 (start c .args .self) (call (start c))
 asked c =
-    let a = start c .args in
-    let z = take (a .m) (now (a .z)) in
-    let r = take (a .m * a .m) (now (a .r)) in
-    let observed = take (observedNumbers (a .self .sheet .n) (a .m)) (now (a .observed)) in
-    let turns = take (a .m) (a .kinds) in record {
+    let a = start c .args in record {
       told = _;
       is =
-          tested binary64 _ (number-in-order (lent c)) (c .before .before .before .is-correcting .ensures) refl (λ h. refl) refl
-          (λ h. ap (λ (t : Bool). allFinite (z ++ (r ++ observed)) && t) (c .before .before .no-kind-refused .ensures ∙ all-clear binary64 turns) ∙ finite-third z r observed (inKinds turns))
+          tested binary64 _ _ (told-in-order (lent c)) (c .before .before .before .before .is-correcting .ensures) refl (λ h. refl) refl
+          (λ h. ap (λ (v : List Float). searched (inputsMeasured (a .self .sheet .n) (a .m) (now (a .z)) (now (a .r)) (now (a .observed)) v)) (ap (take (a .m)) (c .before .before .before .halves .ensures) ∙ halves-take (a .m) (a .kinds)))
           refl
-          (λ h e. c .before .no-kind-refused2 .ensures ∙ all-pass binary64 turns (third-finite z r observed (inKinds turns) e));
+          (λ h. c .before .before .kinds-pass .ensures ∙ all-pass binary64 (take (a .m) (a .kinds)));
     }
 
 -- where the call went on past its tests
 abbrev went : tie.After-correct-with-weights-residuals → tie.Else1
 went c = c .before .before .before .before .before .before .before .before .before .before .before .before .before .before .before .before .before .before
 
-made-is : (c : tie.After-correct-with-weights-residuals) → let a = start (went c .before .before) .args in c .correct-with-weights-residuals .result ≡ moments (run (applyPlan binary64 (weightedFrom binary64 (a .self) (a .m) (now (a .z)) (now (a .r)) (a .kinds) (now (a .observed)))))
+abbrev taker : tie.Else1 → tie.After-take-in
+taker c = c .before .before .before
+
+made-is : (c : tie.After-correct-with-weights-residuals) → let a = start (taker (went c)) .args in c .correct-with-weights-residuals .result ≡ moments (run (applyPlan binary64 (weightedFrom binary64 (a .self) (a .m) (now (a .z)) (now (a .r)) (a .kinds) (now (a .observed)))))
 made-is c =
-    let a = start (went c .before .before) .args in
+    let a = start (taker (went c)) .args in
     let s = a .self in
     c .correct-with-weights-residuals .ensures
-    ∙ ap₂ (λ (v : Measurement) (w : Float). moments (correctOf binary64 (given (s .sheet .n) (a .m) (s .track .x) (s .track .p) (s .track .«drawn_points») (v .observed) w (s .track .«drawn_weights») (v .z) (v .r) (s .sheet .kinds) (widened (a .kinds))))) (taken-in (lent (went c .before .before)) (went c .if1 .left)) (c .before .before .before .before .before .before .before .before .before .before .before .before .before .center-weight .ensures)
+    ∙ ap₂ (λ (v : Intake) (w : Float). moments (correctOf binary64 (given (s .sheet .n) (a .m) (s .track .x) (s .track .p) (s .track .«drawn_points») (v .observed) w (s .track .«drawn_weights») (v .z) (v .r) (s .sheet .kinds) (widened (a .kinds))))) (taken-in (lent (taker (went c))) (went c .if1 .left)) (c .before .before .before .before .before .before .before .before .before .before .before .before .before .center-weight .ensures)
 
 returns-2 : tie.Need-returns-2
 returns-2 c =
     let d = went (c .before) in
-    let a = start (d .before .before) .args in
+    let a = start (taker d) .args in
     let s = a .self in
-    closes-so (asked (d .before .before)) (d .if1 .left) (s .track .«drawn_points») true _
-    (correcting-is binary64 s (a .m) (now (a .z)) (now (a .r)) (a .kinds) (now (a .observed)) (all-passed (asked (d .before .before)) (d .if1 .left) .fits)) (made-is (c .before)) (c .close .ensures)
+    closes-so (asked (taker d)) (d .if1 .left) (s .track .«drawn_points») true _
+    (correcting-is binary64 s (a .m) (now (a .z)) (now (a .r)) (a .kinds) (now (a .observed)) (all-passed (asked (taker d)) (d .if1 .left) .fits)) (made-is (c .before)) (c .close .ensures)
 
 pub close-correction-spec : {M : Type 1} → statement M
 close-correction-spec =
@@ -78,8 +75,8 @@ close-correction-spec =
     (λ c κs. search needs)
     (λ c κs. search needs)
     (λ c κs. search needs)
-    (λ c. turned-away (asked (c .before .before)) (c .if1 .taken))
-    (λ c κs. sizes-in (lent (c .before .before .before .before .before .before)) (c .before .before .before .before .if1 .left) .0)
-    (λ c κs. sizes-in (lent (c .before .before .before .before .before .before .before .before .before .before .before .before .before .before .before .before .before .before .before)) (c .before .before .before .before .before .before .before .before .before .before .before .before .before .before .before .before .before .if1 .left))
+    (λ c. turned-away (asked (c .before .before .before)) (c .if1 .taken))
+    (λ c κs. let d = c .before .before .before .before in sizes-in (lent (taker d)) (d .if1 .left) .0)
+    (λ c κs. let d = c .before .before .before .before .before .before .before .before .before .before .before .before .before .before .before .before .before in sizes-in (lent (taker d)) (d .if1 .left))
     (λ c κs. search needs)
     returns-2)

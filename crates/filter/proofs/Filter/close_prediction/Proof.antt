@@ -7,6 +7,7 @@ use borrow.Author.Needs.{needs}
 use native.Mathlib.Omega.{arith}
 use denote.Ref.{now}
 use lib.Ieee.{Float, binary64}
+use Rattle.floats.specs.declared.Slice.the-variants.{Points}
 use Rattle.floats.specs.Numbers.{zeros}
 use Rattle.floats.specs.Fronts.{front}
 use Rattle.matrix.specs.Results.{run}
@@ -21,34 +22,42 @@ use Rattle.filter.proofs.Closing.{propagatedOf, predicting, predicting-
 use Rattle.filter.proofs.Filter.close_prediction.Statement.{statement}
 use Rattle.filter.proofs.Filter.close_prediction.Tie as tie
 
-abbrev asked : (c : tie.After-slice-refusal) → Told binary64 (c .before .before .before .before .before .before .args .self) (closing (close-prediction (now (c .before .before .before .before .before .before .args .points))))
-asked c = record { told = _; is = slice-first binary64 _ (c .slice-refusal .ensures) (c .before .before .is-predicting .ensures) (λ h. c .before .point-numbers .ensures ∙ within-both _ _ _ h h) }
+abbrev start : tie.After-slice-refusal → tie.Start
+start c = c .before .before .before .before .before .before
+
+abbrev asked : (c : tie.After-slice-refusal) → Told binary64 (start c .args .self) (closing (close-prediction (now (start c .args .points))))
+asked c = record { told = _; is = slice-first binary64 Points _ (c .slice-refusal .ensures) (c .before .before .is-predicting .ensures) (λ h. c .before .point-numbers .ensures ∙ within-both _ _ _ h h) }
 
 -- 1 to 8 states, and the numbers of their points
-sized-at : (c : tie.Else1) → c .before .before .before .before .before .before .before .args .self .sheet .n ≤ 8
-sized-at c = sized-le binary64 (all-passed (asked (c .before)) (c .if1 .left))
+sized-at : (c : tie.Else1) → start (c .before .before) .args .self .sheet .n ≤ 8
+sized-at c = sized-le binary64 (all-passed (asked (c .before .before)) (c .if1 .left))
 
-counted : (c : tie.Else1) → c .before .before .point-numbers .result ≡ pointNumbers (c .before .before .before .before .before .before .before .args .self .sheet .n)
-counted c = c .before .before .point-numbers .ensures ∙ within-both _ _ _ (sized-at c) (sized-at c)
+counted : (c : tie.Else1) → c .before .before .before .point-numbers .result ≡ pointNumbers (start (c .before .before) .args .self .sheet .n)
+counted c = c .before .before .before .point-numbers .ensures ∙ within-both _ _ _ (sized-at c) (sized-at c)
 
 points-requires : tie.Need-points-requires
-points-requires c κs = omega (arith, counted c, numbers-le _ _ (sized-at c) (sized-at c), long-le binary64 (all-passed (asked (c .before)) (c .if1 .left)))
+points-requires c κs = omega (arith, counted c, numbers-le _ _ (sized-at c) (sized-at c), long-le binary64 (all-passed (asked (c .before .before)) (c .if1 .left)))
 
-propagated-is : (c : tie.After-points) → c .points .result ≡ propagatedOf binary64 (c .before .before .before .before .before .before .before .before .args .self) (now (c .before .before .before .before .before .before .before .before .args .points))
-propagated-is c = c .points .ensures ∙ ap (λ (j : ℕ). front j (now (c .before .before .before .before .before .before .before .before .args .points)) (zeros 136)) (counted (c .before))
+propagated-is : (c : tie.After-points) → let a = start (c .before .before .before) .args in c .points .result ≡ propagatedOf binary64 (a .self) (now (a .points))
+propagated-is c = c .points .ensures ∙ ap (λ (j : ℕ). front j (now (start (c .before .before .before) .args .points)) (zeros 136)) (counted (c .before))
 
-made-is : (c : tie.After-reconstruct-prediction) → c .reconstruct-prediction .result ≡ moments (run (predicting binary64 (c .before .before .before .before .before .before .before .before .before .before .before .before .before .before .before .before .before .args .self) (now (c .before .before .before .before .before .before .before .before .before .before .before .before .before .before .before .before .before .args .points))))
+-- where the points were taken in
+abbrev went : tie.After-reconstruct-prediction → tie.After-points
+went c = c .before .before .before .before .before .before .before .before .before
+
+made-is : (c : tie.After-reconstruct-prediction) → let a = start (went c .before .before .before) .args in c .reconstruct-prediction .result ≡ moments (run (predicting binary64 (a .self) (now (a .points))))
 made-is c =
-    let s = c .before .before .before .before .before .before .before .before .before .before .before .before .before .before .before .before .before .args .self in
-    c .reconstruct-prediction .ensures ∙ ap₂ (λ (v : List Float) (w : Float). moments (predictOf binary64 (s .sheet .n) v w (s .track .«drawn_weights») (s .sheet .kinds) (s .sheet .q))) (propagated-is (c .before .before .before .before .before .before .before .before .before)) (c .before .before .before .before .before .before .before .center-weight .ensures)
+    let s = start (went c .before .before .before) .args .self in
+    c .reconstruct-prediction .ensures ∙ ap₂ (λ (v : List Float) (w : Float). moments (predictOf binary64 (s .sheet .n) v w (s .track .«drawn_weights») (s .sheet .kinds) (s .sheet .q))) (propagated-is (went c)) (c .before .before .before .before .before .before .before .center-weight .ensures)
 
 returns-2 : tie.Need-returns-2
 returns-2 c =
-    let d = c .before .before .before .before .before .before .before .before .before .before .before in
-    let s = c .before .before .before .before .before .before .before .before .before .before .before .before .before .before .before .before .before .before .args .self in
-    let v = now (c .before .before .before .before .before .before .before .before .before .before .before .before .before .before .before .before .before .before .args .points) in
-    closes-so (asked (d .before)) (d .if1 .left) (propagatedOf binary64 s v) false (predicting binary64 s v) (predicting-is binary64 s v (all-passed (asked (d .before)) (d .if1 .left) .fits)) (made-is (c .before))
-    (c .close .ensures ∙ ap (λ (u : List Float). closedBy s u false (c .before .reconstruct-prediction .result)) (propagated-is (c .before .before .before .before .before .before .before .before .before .before)))
+    let d = went (c .before) .before in
+    let a = start (d .before .before) .args in
+    let t = asked (d .before .before) in
+    let z = d .if1 .left in
+    closes-so t z (propagatedOf binary64 (a .self) (now (a .points))) false (predicting binary64 (a .self) (now (a .points))) (predicting-is binary64 (a .self) (now (a .points)) (all-passed t z .fits)) (made-is (c .before))
+    (c .close .ensures ∙ ap (λ (u : List Float). closedBy (a .self) u false (c .before .reconstruct-prediction .result)) (propagated-is (went (c .before))))
 
 pub close-prediction-spec : {M : Type 1} → statement M
 close-prediction-spec =
@@ -57,7 +66,7 @@ close-prediction-spec =
     (λ c κs. search needs)
     (λ c κs. search needs)
     (λ c κs. search needs)
-    (λ c. turned-away (asked (c .before)) (c .if1 .taken))
+    (λ c. turned-away (asked (c .before .before)) (c .if1 .taken))
     points-requires
     (λ c κs. sized-at (c .before .before))
     (λ c κs. sized-at (c .before .before .before .before .before .before .before .before .before))

@@ -4,6 +4,7 @@ use borrow.Author.Needs.{needs}
 use native.Mathlib.Omega.{arith}
 use denote.Ref.{now}
 use lib.Ieee.{binary64}
+use Rattle.floats.specs.declared.Slice.the-variants.{State}
 use Rattle.filter.specs.Filters.{x-set, sets}
 use Rattle.filter.specs.Calls.{setting, set-x}
 use Rattle.filter.proofs.Lines.{sized-le, long-le, slice-first}
@@ -11,11 +12,14 @@ use Rattle.filter.proofs.Taken.{Told, turned-away, all-passed, has-set}
 use Rattle.filter.proofs.Filter.set_x.Statement.{statement}
 use Rattle.filter.proofs.Filter.set_x.Tie as tie
 
-abbrev asked : (c : tie.After-slice-refusal) → Told binary64 (c .before .before .before .before .before .args .self) (setting (set-x (now (c .before .before .before .before .before .args .src))))
-asked c = record { told = _; is = slice-first binary64 _ (c .slice-refusal .ensures) (c .before .is-shut .ensures) (λ h. refl) }
+abbrev start : tie.After-slice-refusal → tie.Start
+start c = c .before .before .before .before .before
+
+abbrev asked : (c : tie.After-slice-refusal) → Told binary64 (start c .args .self) (setting (set-x (now (start c .args .src))))
+asked c = record { told = _; is = slice-first binary64 State _ (c .slice-refusal .ensures) (c .before .is-shut .ensures) (λ h. refl) }
 
 vector-requires : tie.Need-vector-requires
-vector-requires c κs = let p = all-passed (asked (c .before)) (c .if1 .left) in omega (arith, sized-le binary64 p, long-le binary64 p)
+vector-requires c κs = let p = all-passed (asked (c .before .before)) (c .if1 .left) in omega (arith, sized-le binary64 p, long-le binary64 p)
 
 pub set-x-spec : {M : Type 1} → statement M
 set-x-spec =
@@ -23,6 +27,6 @@ set-x-spec =
     (tie.spec
     (λ c κs. search needs)
     (λ c κs. search needs)
-    (λ c. turned-away (asked (c .before)) (c .if1 .taken))
+    (λ c. turned-away (asked (c .before .before)) (c .if1 .taken))
     vector-requires
-    (λ c. has-set (asked (c .before .before)) (c .before .if1 .left) (λ v. sets (x-set v)) (c .vector .ensures) refl))
+    (λ c. has-set (asked (c .before .before .before)) (c .before .if1 .left) (λ v. sets (x-set v)) (c .vector .ensures) refl))

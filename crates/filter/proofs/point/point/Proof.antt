@@ -5,16 +5,20 @@ use borrow.Author.Tests.{eq-eqb, ne-eqb}
 use native.Mathlib.Omega.{arith}
 use denote.Ref.{now}
 use lib.Ieee.{binary64}
+use Rattle.floats.proofs.Refusals.{number-of}
 use Rattle.filter.specs.Point.{pointRefusal, pointPlace}
 use Rattle.filter.proofs.Points.{within, part, none}
 use Rattle.filter.proofs.point.point.Statement.{statement}
 use Rattle.filter.proofs.point.point.Tie as tie
 
-taken : (c : tie.Then1) → pointRefusal binary64 (now (c .before .before .before .args .list)) (c .before .before .before .args .n) (c .before .before .before .args .k) ≡ 0
-taken c = sym (c .before .point-refusal .ensures) ∙ c .if1 .taken
+taken : (c : tie.Then1) → let a = c .before .before .before .before .args in pointRefusal binary64 (now (a .list)) (a .n) (a .k) .number ≡ 0
+taken c = sym (number-of (c .before .before .point-refusal .ensures)) ∙ c .if1 .taken
+
+refused : (c : tie.Else1) → let a = c .before .before .before .before .args in pointRefusal binary64 (now (a .list)) (a .n) (a .k) .number ≡ 0 → ⊥
+refused c h = c .if1 .left (number-of (c .before .before .point-refusal .ensures) ∙ h)
 
 mul-result : tie.Need-mul-result
-mul-result c = omega (arith, within binary64 _ _ _ (taken c), c .before .before .before .good .0 .1)
+mul-result c = omega (arith, within binary64 _ _ _ (taken c), c .before .before .before .before .good .0 .1)
 
 part-result-end : tie.Need-part-result-end
 part-result-end c = within binary64 _ _ _ (taken c)
@@ -25,9 +29,7 @@ returns c = (part binary64 _ _ _ (taken (c .before)), simp (eq-eqb _ _ (taken (c
 
 returns-2 : tie.Need-returns-2
 unfolding pointPlace
-returns-2 c =
-    let d = c .before in
-    (sym (none binary64 _ _ _ (λ h. d .if1 .left (d .before .point-refusal .ensures ∙ h))), simp (ne-eqb _ _ (λ h. d .if1 .left (d .before .point-refusal .ensures ∙ h))))
+returns-2 c = (sym (none binary64 _ _ _ (refused (c .before))), simp (ne-eqb _ _ (refused (c .before))))
 
 pub point-spec : {M : Type 1} → statement M
 point-spec =

@@ -7,6 +7,7 @@ use denote.Ref.{now}
 use lib.Dec.{leb}
 use lib.ListN.{length}
 use lib.Ieee.{binary64}
+use Rattle.floats.specs.Refusal.{nothing}
 use Rattle.filter.specs.Calls.{sized}
 use Rattle.filter.specs.Point.{pointAsks}
 use Rattle.filter.proofs.Sizes.{and-true, point-in, within-both}
@@ -20,10 +21,10 @@ returns : tie.Need-returns
 returns c =
     let b = c .before .before in
     let a = b .before .before .before .before .args in
-    tested binary64 (pointAsks binary64 (now (a .list)) (a .n) (a .k)) (c .first-refusal .ensures) refl
+    tested binary64 (pointAsks binary64 (now (a .list)) (a .n) (a .k)) nothing (c .early-refusal .ensures) refl
     (b .both .ensures ∙ ap₂ (λ (x : Bool) (l : ℕ). x && leb (a .k) l) (b .before .before .is-sized .ensures) (b .before .last-point .ensures) ∙ point-in (a .k) (a .n))
     (λ h. ap (λ (j : ℕ). leb j (length (now (a .list)))) (c .before .point-numbers .ensures ∙ within-both _ _ _ (states-le _ (sized (a .k) 0 (a .n + a .n)) h) (states-le _ (sized (a .k) 0 (a .n + a .n)) h)) ∙ sym (and-true _))
-    refl (λ h. sym none) refl (λ h e. refl)
+    refl (λ h. none) refl (λ h. refl)
     ∙ first binary64 (now (a .list)) (a .n) (a .k)
 
 pub point-refusal-spec : {M : Type 1} → statement M

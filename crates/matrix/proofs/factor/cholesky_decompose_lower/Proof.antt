@@ -1,6 +1,6 @@
 -- `factor::cholesky_decompose_lower` meets its contract: at the head of each loop what is left of the work comes to the whole outcome (`FactorSteps.antt`), so far with no refusal.
 -- Assumes nothing.
-use Prim.Native.Nat.{ℕ, _-_, _≤_}
+use Prim.Native.Nat.{_-_, _≤_}
 use mathlib.Core.Path.{_≡_, refl, sym, _∙_, ap}
 use mathlib.Core.List.{List}
 use mathlib.Core.Logic.{_⊎_, inl, inr, ⊎-elim}
@@ -8,7 +8,8 @@ use borrow.Author.Needs.{needs}
 use borrow.Author.Tests.{not-true, not-false}
 use native.Mathlib.Omega.{arith}
 use lib.Ieee.{Float, binary64, ofBits}
-use Rattle.floats.specs.Refusal.{Refusal, RANGE, number, Outcome, refused, accepted}
+use Rattle.floats.specs.declared.Verdict.{Verdict}
+use Rattle.floats.specs.Refusal.{Refusal, RANGE, number, verdict, taken, Outcome, refused, accepted}
 use Rattle.floats.specs.Numbers.{zeros}
 use Rattle.matrix.specs.Results.{worked}
 use Rattle.matrix.specs.Factor.{refusedBy, factorOf}
@@ -19,20 +20,20 @@ use Rattle.matrix.proofs.factor.cholesky_decompose_lower.Statement.{sta
 use Rattle.matrix.proofs.factor.cholesky_decompose_lower.Tie as tie
 
 abbrev Inv-rows : tie.InvT-rows
-Inv-rows a n of l₀ refusal₀ j s pivot d i₀ l refusal i = (i ≤ n) × (refusal ≡ 0) × RowsAt binary64 (refusedBy of) a n j d i l
+Inv-rows a n of l₀ refusal₀ j s pivot d i₀ l refusal i = (i ≤ n) × (refusal ≡ taken) × RowsAt binary64 (refusedBy of) a n j d i l
 
 abbrev μ-rows : tie.MeasureT-rows
 μ-rows a n of l₀ refusal₀ j s pivot d i₀ l refusal i = n - i
 
 abbrev Inv-columns : tie.InvT-columns
-Inv-columns a n of l₀ refusal₀ j₀ l refusal j = (j ≤ n) × (refusal ≡ 0) × ColumnsAt binary64 (refusedBy of) a n j l
+Inv-columns a n of l₀ refusal₀ j₀ l refusal j = (j ≤ n) × (refusal ≡ taken) × ColumnsAt binary64 (refusedBy of) a n j l
 
 abbrev μ-columns : tie.MeasureT-columns
 μ-columns a n of l₀ refusal₀ j₀ l refusal j = n - j
 
 -- the work is accepted and q is 0, or it is refused by q
-abbrev Ended : Outcome (List Float) → List Float → ℕ → Type 0
-Ended w l q = ((q ≡ 0) × (w ≡ accepted l)) ⊎ ((r : Refusal) × (q ≡ number r) × (w ≡ refused r))
+abbrev Ended : Outcome (List Float) → List Float → Verdict → Type 0
+Ended w l q = ((q ≡ taken) × (w ≡ accepted l)) ⊎ ((r : Refusal) × (q ≡ verdict r) × (w ≡ refused r))
 
 -- the four ways out of the columns: at the loop's test, at a pivot, at a root that is never missing, at an entry. The last two parts of each are what it leaves in l and in refusal
 ended : (c : tie.Left-columns Inv-rows μ-rows Inv-columns μ-columns)
@@ -85,10 +86,10 @@ columns-again c = (omega arith, c .before .rows .inv .1, rows-end (c .before .ro
 
 returns : tie.Need-returns Inv-rows μ-rows Inv-columns μ-columns
 unfolding ofBits zeros
-returns c = ⊎-elim (λ w. absurd (c .if3 .taken (w .0))) (λ w. rw (w .2, w .1)) (ended (c .before))
+returns c = ⊎-elim (λ w. absurd (c .if3 .taken (ap (λ (v : Verdict). v .number) (w .0)))) (λ w. rw (w .2, w .1)) (ended (c .before .before))
 
 returns-2 : tie.Need-returns-2 Inv-rows μ-rows Inv-columns μ-columns
-returns-2 c = ⊎-elim (λ w. rw (w .1, w .0)) (λ w. absurd (omega (arith, w .1, number-above (w .0)))) (ended (c .before))
+returns-2 c = ⊎-elim (λ w. rw (w .1, w .0)) (λ w. absurd (omega (arith, sym (ap (λ (v : Verdict). v .number) (w .1)) ∙ c .if3 .left, number-above (w .0)))) (ended (c .before .before))
 
 pub cholesky-decompose-lower-spec : {M : Type 1} → statement M
 cholesky-decompose-lower-spec =

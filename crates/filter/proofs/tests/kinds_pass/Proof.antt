@@ -1,22 +1,21 @@
--- `tests::no_kind_refused` meets its contract: the kinds before i have passed, and the first that fails, the fourth or m decides. Assumes nothing.
+-- `tests::kinds_pass` meets its contract: the kinds before i have passed, and the first that fails, the fourth or m decides. Assumes nothing.
 use Prim.Native.Nat.{_≤_, _-_}
-use mathlib.Core.Path.{sym, ap, _∙_}
-use mathlib.Core.Bool.{not}
+use mathlib.Core.Path.{sym, _∙_}
 use native.Mathlib.Omega.{arith}
 use borrow.Author.Needs.{needs}
-use borrow.Author.Tests.{eq-eqb, ne-eqb}
+use borrow.Author.Tests.{not-true, not-false}
 use lib.Ieee.{binary64}
 use Rattle.angles.specs.Kinds.{plain}
-use Rattle.filter.specs.Asked.{clear}
+use Rattle.filter.specs.Asked.{passing}
 use Rattle.filter.proofs.KindTests.{Passed, passed-none, passed-more, passed-bad, passed-over, passed-end}
-use Rattle.filter.proofs.tests.no_kind_refused.Statement.{statement}
-use Rattle.filter.proofs.tests.no_kind_refused.Tie as tie
+use Rattle.filter.proofs.tests.kinds_pass.Statement.{statement}
+use Rattle.filter.proofs.tests.kinds_pass.Tie as tie
 
 abbrev Inv-loop : tie.InvT-loop
-Inv-loop m number kinds i₀ i = (i ≤ m) × Passed (clear binary64 number) kinds i
+Inv-loop m kinds i₀ i = (i ≤ m) × Passed (passing binary64) kinds i
 
 abbrev μ-loop : tie.MeasureT-loop
-μ-loop m number kinds i₀ i = m - i
+μ-loop m kinds i₀ i = m - i
 
 returns : tie.Need-returns Inv-loop μ-loop
 returns c = passed-over (c .before .before .loop .inv .1) (c .before .before .before .args .m) (omega arith) (omega arith)
@@ -24,18 +23,18 @@ returns c = passed-over (c .before .before .loop .inv .1) (c .before .before .be
 returns-2 : tie.Need-returns-2 Inv-loop μ-loop
 returns-2 c =
     let l = c .before .before .before .before .before in
-    passed-bad (l .loop .inv .1) (l .before .args .m) plain (omega arith) (omega arith) (ap not (eq-eqb _ _ (sym (c .before .kind-refusal .ensures) ∙ c .if2 .taken)))
+    passed-bad (l .loop .inv .1) (l .before .args .m) plain (omega arith) (omega arith) (sym (c .before .kind-passes .ensures) ∙ not-true _ (c .if2 .taken))
 
 loop-again : tie.Need-loop-again Inv-loop μ-loop
 loop-again c =
     let l = c .before .before .before .before .before in
-    (omega arith, passed-more (l .loop .inv .1) plain (omega arith) (ap not (ne-eqb _ _ (λ h. c .if2 .left (c .before .kind-refusal .ensures ∙ h)))))
+    (omega arith, passed-more (l .loop .inv .1) plain (omega arith) (sym (c .before .kind-passes .ensures) ∙ not-false _ (c .if2 .left)))
 
 returns-3 : tie.Need-returns-3 Inv-loop μ-loop
 returns-3 c = passed-end (c .before .loop .inv .1) (c .before .before .args .m) (omega arith)
 
-pub no-kind-refused-spec : {M : Type 1} → statement M
-no-kind-refused-spec =
+pub kinds-pass-spec : {M : Type 1} → statement M
+kinds-pass-spec =
     tie.close
     (tie.spec
     Inv-loop

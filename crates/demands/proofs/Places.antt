@@ -1,0 +1,120 @@
+-- What the search comes to, in words: the first bad number of the first slice that has one, with its place there. Assumes nothing.
+use Prim.Native.Nat.{ℕ, zero, suc, _+_, _<_}
+use mathlib.Core.Path.{_≡_, refl, sym, ap, _∙_}
+use mathlib.Core.Bool.{Bool, true, false}
+use mathlib.Core.List.{List, [], _∷_}
+use mathlib.Core.Logic.{_≢_, _⊎_, inl, inr}
+use native.Mathlib.Omega.{arith}
+use lib.ListN.{getD}
+use lib.Ieee.{Float, nan}
+use lib.Ieee.Scale.{finite}
+use Rattle.floats.specs.declared.Slice.{Slice}
+use Rattle.floats.specs.Refusal.{Refusal, SIZE, SHORT, STAGE, STALE, NUMBER, PARAM, PIVOT, INNOV, RANGE, KIND, number, placeOf, Outcome, refused, accepted, unless, onward, nothing}
+use Rattle.floats.specs.Numbers.{allFinite}
+use Rattle.floats.specs.Search.{Input, searchedFrom, searched}
+use Rattle.floats.proofs.Refusals.{slice-above, refused-never}
+use Rattle.floats.proofs.Search.{none-bad, all-good}
+use Rattle.demands.specs.Rows.{Some, NotFinite, FirstIn, FirstBad, found, further}
+use Rattle.demands.proofs.Rows.{two-ways, all-finite}
+use Rattle.demands.proofs.Passed.{Pass, finiteIn, searched-finite}
+
+-- ---- one slice
+
+first-zero : {x : Float} {v : List Float} → NotFinite x → FirstIn (x ∷ v) 0
+first-zero b = record { inside = omega arith; bad = b; before = λ q h. absurd (omega arith) }
+
+first-next : {x : Float} {v : List Float} {p : ℕ} → finite x ≡ true → FirstIn v p → FirstIn (x ∷ v) (suc p)
+first-next {x} {v} {p} e w = record { inside = omega (arith, w .inside); bad = w .bad; before = earlier }
+  where
+    earlier : (q : ℕ) → q < suc p → NotFinite (getD (x ∷ v) q nan) → ⊥
+    earlier zero h b = two-ways e b
+    earlier (suc q) h b = w .before q (omega arith) b
+
+slice-words : (s : Slice) (i : ℕ) (v : List Float) (r : Refusal) → searchedFrom s i v ≡ refused r → (p : ℕ) × (r ≡ NUMBER s (i + p)) × FirstIn v p
+unfolding searchedFrom
+slice-words s i [] r e = absurd (refused-never (sym e))
+slice-words s i (x ∷ v) r e = go (finite x) refl (slice-words s (i + 1) v r) e
+  where
+    go : (b : Bool) → finite x ≡ b → (searchedFrom s (i + 1) v ≡ refused r → (p : ℕ) × (r ≡ NUMBER s (i + 1 + p)) × FirstIn v p)
+        → unless b (NUMBER s i) (searchedFrom s (i + 1) v) ≡ refused r → (p : ℕ) × (r ≡ NUMBER s (i + p)) × FirstIn (x ∷ v) p
+    go true t k e = let q = k e in let z : i + 1 + q .0 ≡ i + suc (q .0) = omega arith in (suc (q .0), q .1 ∙ ap (NUMBER s) z, first-next t (q .2))
+    go false t k e = let y : NUMBER s i ≡ r = cc in let z : i ≡ i + 0 = omega arith in (0, sym y ∙ ap (NUMBER s) z, first-zero t)
+
+words-slice : (s : Slice) (i : ℕ) (v : List Float) (p : ℕ) → FirstIn v p → searchedFrom s i v ≡ refused (NUMBER s (i + p))
+unfolding searchedFrom
+words-slice s i [] p w = absurd (omega (arith, w .inside))
+words-slice s i (x ∷ v) zero w = let z : i + 0 ≡ i = omega arith in rw (w .bad, z)
+words-slice s i (x ∷ v) (suc p) w =
+    let z : i + 1 + p ≡ i + suc p = omega arith in
+    rw (passes (finite x) (λ b. w .before 0 (omega arith) b))
+    (words-slice s (i + 1) v p (record { inside = omega (arith, w .inside); bad = w .bad; before = λ q h b. w .before (suc q) (omega arith) b }) ∙ ap (λ (k : ℕ). refused (NUMBER s k)) z)
+  where
+    passes : (b : Bool) → (b ≡ false → ⊥) → b ≡ true
+    passes true n = refl
+    passes false n = absurd (n refl)
+
+-- ---- slice after slice
+
+no-some : (v : List Float) → allFinite v ≡ true → Some NotFinite v → ⊥
+no-some v e = all-finite v .passes e
+
+-- A SEARCH THAT REFUSES DOES SO BY THE FIRST BAD NUMBER
+pub search-words : (l : List Input) (r : Refusal) → searched l ≡ refused r → (s : Slice) × (i : ℕ) × (r ≡ NUMBER s i) × FirstBad s i l
+unfolding searched
+search-words [] r e = absurd (refused-never (sym e))
+search-words (x ∷ l) r e = go (searchedFrom (x .slice) 0 (x .numbers)) refl (search-words l r) e
+  where
+    go : (o : Outcome Bool) → searchedFrom (x .slice) 0 (x .numbers) ≡ o → (searched l ≡ refused r → (s : Slice) × (i : ℕ) × (r ≡ NUMBER s i) × FirstBad s i l)
+        → onward o (λ (t : Bool). searched l) ≡ refused r → (s : Slice) × (i : ℕ) × (r ≡ NUMBER s i) × FirstBad s i (x ∷ l)
+    go (refused q) d k e = let y : q ≡ r = cc in let w = slice-words (x .slice) 0 (x .numbers) q d in let z : 0 + w .0 ≡ w .0 = omega arith in (x .slice, w .0, sym y ∙ w .1 ∙ ap (NUMBER (x .slice)) z, found (w .2))
+    go (accepted t) d k e = let w = k e in (w .0, w .1, w .2, further (no-some (x .numbers) (all-good (x .slice) 0 (x .numbers) d)) (w .3))
+
+-- and by none else
+pub words-search : {s : Slice} {i : ℕ} (l : List Input) → FirstBad s i l → searched l ≡ refused (NUMBER s i)
+unfolding searched
+words-search {i = i} (x ∷ l) (found w) = let z : 0 + i ≡ i = omega arith in rw (words-slice (x .slice) 0 (x .numbers) i w, z)
+words-search (x ∷ l) (further n w) = rw (none-bad (x .slice) 0 (x .numbers) (good (x .numbers) n)) (words-search l w)
+  where
+    good : (v : List Float) → (Some NotFinite v → ⊥) → allFinite v ≡ true
+    good v n = go (allFinite v) refl
+      where
+        go : (b : Bool) → allFinite v ≡ b → b ≡ true
+        go true e = refl
+        go false e = absurd (n (all-finite v .fails e))
+
+-- one number is the first
+pub one-bad : {s t : Slice} {i j : ℕ} {l : List Input} → FirstBad s i l → FirstBad t j l → NUMBER s i ≡ NUMBER t j
+one-bad {s} {t} {i} {j} {l} x y = let e : _≡_ {A = Outcome Bool} (refused (NUMBER s i)) (refused (NUMBER t j)) = sym (words-search l x) ∙ words-search l y in cc
+
+-- where it is accepted there is none, and where all are finite it is accepted
+pub no-bad : {s : Slice} {i : ℕ} {t : Bool} (l : List Input) → searched l ≡ accepted t → FirstBad s i l → ⊥
+no-bad l e w = refused-never (sym (words-search l w) ∙ e)
+
+pub finite-searched : (l : List Input) → Pass finiteIn l → searched l ≡ nothing
+unfolding searched
+finite-searched [] h = refl
+finite-searched (x ∷ l) h = rw (none-bad (x .slice) 0 (x .numbers) (h .0)) (finite-searched l (h .1))
+
+pub none-finite : (l : List Input) → ((s : Slice) (i : ℕ) → FirstBad s i l → ⊥) → Pass finiteIn l
+none-finite l n = go (searched l) refl
+  where
+    go : (o : Outcome Bool) → searched l ≡ o → Pass finiteIn l
+    go (refused r) e = let w = search-words l r e in absurd (n (w .0) (w .1) (w .3))
+    go (accepted t) e = searched-finite l e
+
+-- ---- the places that are told
+
+pub told-by : (r : Refusal) → placeOf r ≢ 0 → (50 < number r) ⊎ ((number r ≡ 7) ⊎ (number r ≡ 8))
+told-by SIZE h = absurd (h refl)
+told-by SHORT h = absurd (h refl)
+told-by STAGE h = absurd (h refl)
+told-by STALE h = absurd (h refl)
+told-by (NUMBER s i) h = inl (slice-above s)
+told-by PARAM h = absurd (h refl)
+told-by (PIVOT j) h = inr (inl refl)
+told-by (INNOV j) h = inr (inr refl)
+told-by RANGE h = absurd (h refl)
+told-by KIND h = absurd (h refl)
+
+pub verdict-row : {q r : Refusal} → q ≡ r → placeOf q ≡ placeOf r
+verdict-row e = ap placeOf e

@@ -1,0 +1,124 @@
+//! What the place in an answer (request A5) was told among. It goes into a table of what was met; no answer comes from here.
+
+use crate::kinds::{is_half_turn, Kind};
+use crate::refusal::Slice;
+use crate::steps::{all_finite, Params, Weights};
+
+/// Where in its slice the first bad number stood.
+pub const SPOTS: [&str; 3] = ["first", "between", "last"];
+
+/// It wasn't the only one in its slice; its slice was the second of its number, as x and P of a pair's second side are.
+pub const SEVERAL: &str = "several";
+pub const SECOND: &str = "second";
+
+/// What stood in front of a measurement's bad half-turn: a kind that has none, one that 6 would refuse.
+pub const AFTER_PLAIN: &str = "after a plain kind";
+pub const AFTER_PARAM: &str = "after one that fails 6";
+
+/// Something had to wait: a slice that is searched later, 10 or 6.
+pub fn before(number: u8) -> String {
+    format!("before {number}")
+}
+
+/// An accepted call was lent a bad number past what it needs of this slice.
+pub fn past(number: u8) -> String {
+    format!("past {number}")
+}
+
+pub fn row(row: usize) -> String {
+    format!("row {row}")
+}
+
+/// What a call is lent of a slice, and how many numbers of it the call needs.
+struct Lent {
+    slice: Slice,
+    numbers: Vec<f64>,
+    needed: usize,
+}
+
+impl Lent {
+    fn bad(&self) -> usize {
+        self.numbers[..self.needed].iter().filter(|number| !number.is_finite()).count()
+    }
+}
+
+/// What a call searches: its slices in that order, the kinds of its measurements, and what it would be refused by once they are searched.
+#[derive(Default)]
+pub struct Search {
+    slices: Vec<Lent>,
+    kinds: Vec<Kind>,
+    after: Option<u8>,
+}
+
+impl Search {
+    pub fn of(slice: Slice, numbers: &[f64], needed: usize) -> Search {
+        Search::default().and(slice, numbers, needed)
+    }
+
+    fn and(mut self, slice: Slice, numbers: &[f64], needed: usize) -> Search {
+        self.slices.push(Lent { slice, numbers: numbers.to_vec(), needed });
+        self
+    }
+
+    /// New's, for a filter or for both of a pair.
+    pub fn of_new(n: usize, starts: &[(&[f64], &[f64])], q: &[f64], par: Params) -> Search {
+        let search =
+            starts.iter().fold(Search::default(), |search, (x, p)| search.and(Slice::State, x, n).and(Slice::Covariance, p, n * n));
+        let after = (all_finite(&par.numbers()) && !Weights::of(n, par).pass()).then_some(6);
+        Search { after, ..search.and(Slice::Noise, q, n * n).and(Slice::Lone, &par.numbers(), 3) }
+    }
+
+    /// The weighted close's.
+    pub fn of_close(n: usize, m: usize, z: &[f64], r: &[f64], kinds: &[Kind; 4], observed: &[f64]) -> Search {
+        let halves = kinds.map(|kind| kind.half().unwrap_or(1.0));
+        let search = Search::of_flat_close(n, m, z, r, false, observed).and(Slice::Lone, &halves, m);
+        Search { kinds: kinds[..m].to_vec(), after: fails(&kinds[..m]).then_some(6), ..search }
+    }
+
+    /// The flat close's, of a filter that has a turn or hasn't.
+    pub fn of_flat_close(n: usize, m: usize, z: &[f64], r: &[f64], turn: bool, observed: &[f64]) -> Search {
+        let search = Search::of(Slice::Noise, r, m * m).and(Slice::Points, observed, m * (2 * n + 1)).and(Slice::Measurement, z, m);
+        Search { after: turn.then_some(10), ..search }
+    }
+
+    /// What an answer with this number and place shows.
+    pub fn shown(&self, number: u8, place: usize) -> Vec<String> {
+        match number {
+            0 => {
+                let judged = |lent: &&Lent| all_finite(&lent.numbers[lent.needed..]);
+                self.slices.iter().filter(|lent| !judged(lent)).map(|lent| past(lent.slice.number())).collect()
+            }
+            7 | 8 => vec![row(place)],
+            51..=56 => self.told(place),
+            _ => vec![],
+        }
+    }
+
+    fn told(&self, place: usize) -> Vec<String> {
+        let mut bad = self.slices.iter().enumerate().filter(|(_, lent)| lent.bad() > 0);
+        let Some((at, own)) = bad.next() else {
+            return vec![];
+        };
+        let spot = match place {
+            0 => SPOTS[0],
+            _ if place + 1 < own.needed => SPOTS[1],
+            _ => SPOTS[2],
+        };
+        let again = self.slices[..at].iter().any(|lent| lent.slice == own.slice);
+        let in_front = if own.slice == Slice::Lone { self.kinds.get(..place).unwrap_or_default() } else { &[] };
+        let words = [
+            (true, spot),
+            (own.bad() > 1, SEVERAL),
+            (again, SECOND),
+            (in_front.contains(&Kind::Plain), AFTER_PLAIN),
+            (fails(in_front), AFTER_PARAM),
+        ];
+        let words = words.into_iter().filter(|(holds, _)| *holds).map(|(_, word)| word.to_string());
+        words.chain(bad.map(|(_, later)| later.slice.number()).chain(self.after).map(before)).collect()
+    }
+}
+
+/// Whether a half-turn is finite, but none that 6 lets pass.
+fn fails(kinds: &[Kind]) -> bool {
+    kinds.iter().filter_map(|kind| kind.half()).any(|h| h.is_finite() && !is_half_turn(h))
+}
