@@ -8,7 +8,6 @@ ghost use Rattle.correction.specs.Leaves.{innovationOf, shiftedOf, widen
 ghost use Rattle.correction.specs.Correct.{applyPlan, given, correctOf};
 use angles::Kind;
 use angles::Residual;
-use floats::Verdict;
 use matrix::factor;
 use matrix::factor::Pivots;
 use matrix::inverse;
@@ -132,10 +131,7 @@ fn apply_correction(
         return predict::refuse(9, 0);
     }
     Moments {
-        refusal: Verdict {
-            number: 0,
-            place: 0,
-        },
+        refusal: floats::placeless(0),
         x: x1,
         p: p1,
     }

@@ -1,42 +1,42 @@
 -- Demand 1: a call ends with a result or one of the refusals, each exactly when its row says, with its place; what is refused changes nothing; every number handed out is finite. Over every format. Assumes nothing.
 use Prim.Native.Nat.{ℕ, _*_, _<_, _≤_}
-use mathlib.Core.Path.{_≡_, refl, ap}
+use mathlib.Core.Path.{_≡_, refl}
 use mathlib.Core.Bool.{true, false, cond}
 use mathlib.Core.List.{List, [], _∷_}
 use mathlib.Core.Logic.{_↔_, _≢_, _⊎_}
-use native.Mathlib.Omega.{arith}
-use lib.ListN.{length, take}
+use lib.ListN.{length, take, getD}
 use lib.Ieee.{Float, Format, add}
 use Rattle.floats.specs.declared.Slice.{Slice}
 use Rattle.floats.specs.declared.Slice.the-variants.{State, Covariance, Noise, Lone}
-use Rattle.floats.specs.Refusal.{Refusal, NUMBER, PARAM, SIZE, STAGE, STALE, KIND, PIVOT, INNOV, badLone, number, placeOf, verdict, taken, refused, refusal}
+use Rattle.floats.specs.Refusal.{Refusal, NUMBER, PARAM, SIZE, STAGE, STALE, KIND, PIVOT, INNOV, badLone, number, placeOf, verdict, taken, Outcome, refusal}
 use Rattle.floats.specs.Search.{Input}
-use Rattle.floats.proofs.Refusals.{number-of}
 use Rattle.floats.specs.Numbers.{plusZero, zeros, allFinite}
 use Rattle.floats.specs.Fronts.{front, over}
 use Rattle.root.specs.Answer.{rootOutcome}
 use Rattle.angles.specs.Wrap.{wrapOf, wrapped}
-use Rattle.angles.specs.Kinds.{halfOf, kindOf}
+use Rattle.angles.specs.Kinds.{plain, halfOf, kindOf}
 use Rattle.angles.specs.declared.Kind.{Kind}
-use Rattle.matrix.specs.Results.{worked, planned}
-use Rattle.matrix.specs.Factor.{factorOf}
-use Rattle.matrix.proofs.FactorRows.{BadPivot, row-exactly}
+use Rattle.angles.specs.declared.Residual.the-variants.{Turn}
+use Rattle.matrix.specs.Results.{planned}
+use Rattle.matrix.specs.Factored.{BadPivot}
 use Rattle.sigma.specs.declared.Params.{Params}
 use Rattle.sigma.specs.Weights.{scaleOf, w0mOf}
 use Rattle.sigma.specs.Draw.{pointNumbers}
+use Rattle.correction.specs.Correct.{Head}
 use Rattle.filter.specs.declared.Filter.{Filter}
 use Rattle.filter.specs.Asked.{by-params}
 use Rattle.filter.specs.Filters.{seen}
-use Rattle.filter.specs.Calls.{Call, setting, closing, open-prediction, open-correction, close-prediction, close-correction, close-correction-flat, fits, asks, plan, weightedFrom, flatFrom}
+use Rattle.filter.specs.Calls.{Call, setting, closing, open-prediction, open-correction, close-prediction, close-correction, close-correction-flat, fits, halves, asks, plan, weightedFrom, flatFrom}
 use Rattle.filter.specs.Steps.{step, paramsRead, staleRead}
 use Rattle.filter.specs.New.{emptySheet, emptyTrack, empty, Start, from, newAsks, startAsks, newSheet, newTrack, newAnswer}
 use Rattle.filter.specs.Point.{pointAsks, pointRefusal, pointOf}
-use Rattle.demands.specs.Rows.{Some, NotFinite, NotAbove, Below, OutOfRange, FirstBad, searches, IsTurn, IsFlat, Measurable, UnfitTurn, FirstFails, Cause, Applies, Due, ByStep, Neither}
-use Rattle.demands.specs.Listed.{listedAtOpen, listedAtPrediction, listedAtCorrection}
+use Rattle.demands.specs.Rows.{Some, NotFinite, NotAbove, Below, OutOfRange, FirstIn, FirstBad, searches, IsTurn, IsFlat, Measurable, UnfitTurn, Fails, FirstFails, Cause, Applies, Due, ByStep, Neither}
+use Rattle.demands.specs.Listed.{listedAtOpen, listedAtPrediction, listedAtHead, listedAtCorrection}
 use Rattle.demands.specs.Runs.{told}
 use Rattle.demands.specs.Sound.{Sound, Tidy, Reached, Yielded, handedOut, Each}
-use Rattle.demands.proofs.Exactly.{exactly, taken-exactly, new-exactly, new-taken, new-track-exactly, new-sheet-exactly, point-exactly, point-taken, wrap-exactly, wrap-taken, wrap-refused, root-exactly, kind-exactly, kind-taken, ends-so, refused-unwritten, refused-values, new-refused, new-track-refused, new-sheet-refused, point-refused}
-use Rattle.demands.proofs.Places.{one-bad, told-by, verdict-row}
+use Rattle.demands.proofs.Exactly.{exactly, taken-exactly, new-exactly, new-taken, new-track-exactly, new-track-taken, new-sheet-exactly, new-sheet-taken, point-exactly, point-taken, wrap-exactly, wrap-taken, wrap-refused, root-exactly, root-taken, kind-exactly, kind-taken, one-of, ends-so, refused-unwritten, refused-values, new-refused, new-track-refused, new-sheet-refused, point-refused}
+use Rattle.demands.proofs.Places.{some-bad, one-bad, turn-at, told-by}
+use Rattle.demands.proofs.Pivots.{open-pivot, correction-pivot}
 use Rattle.demands.proofs.Listed.{open-prediction-lists, open-correction-lists, close-prediction-lists, close-correction-lists, close-correction-flat-lists}
 use Rattle.demands.proofs.Table.{searches-so, steps-give, stage-exactly, states-first, kind-only, never-stale, never-param}
 use Rattle.demands.proofs.Turned.{turned-away-exactly}
@@ -56,7 +56,7 @@ module _ (f : Format) where
   exactly-when = exactly f
 
   -- and the call is taken exactly when no row applies.
-  pub taken-when : (s : Filter) (c : Call) → (step f s c .reply .refusal .number ≡ 0) ↔ ((d : Cause) → Applies f (asks (seen s) c) (planned (plan f (seen s) c)) d → ⊥)
+  pub taken-when : (s : Filter) (c : Call) → (step f s c .reply .refusal ≡ taken) ↔ ((d : Cause) → Applies f (asks (seen s) c) (planned (plan f (seen s) c)) d → ⊥)
   taken-when = taken-exactly f
 
   -- The same of New, which has no steps. It asks for 1 to 8 states, for slices that are long enough, for finite numbers, searched in x, P, Q and the parameters in this order, and for parameters that pass 6;
@@ -74,7 +74,7 @@ module _ (f : Format) where
   pub new-exactly-when : (n : ℕ) (x p q : List Float) (params : Params) (r : Refusal) → (newAnswer f n x p q params .refusal ≡ verdict r) ↔ Due f (newAsks n (from x p ∷ []) q params) [] r
   new-exactly-when = new-exactly f
 
-  pub new-taken-when : (n : ℕ) (x p q : List Float) (params : Params) → (newAnswer f n x p q params .refusal .number ≡ 0) ↔ ((d : Cause) → Applies f (newAsks n (from x p ∷ []) q params) [] d → ⊥)
+  pub new-taken-when : (n : ℕ) (x p q : List Float) (params : Params) → (newAnswer f n x p q params .refusal ≡ taken) ↔ ((d : Cause) → Applies f (newAsks n (from x p ∷ []) q params) [] d → ⊥)
   new-taken-when = new-taken f
 
   -- of its parts by themselves, a track, which asks for n, x and P, and a sheet, which asks for n, Q and the parameters,
@@ -103,14 +103,20 @@ module _ (f : Format) where
   pub track-exactly-when : (n : ℕ) (s : Start) (r : Refusal) → (newTrack f n s .refusal ≡ verdict r) ↔ Due f (startAsks n s) [] r
   track-exactly-when = new-track-exactly f
 
+  pub track-taken-when : (n : ℕ) (s : Start) → (newTrack f n s .refusal ≡ taken) ↔ ((d : Cause) → Applies f (startAsks n s) [] d → ⊥)
+  track-taken-when = new-track-taken f
+
   pub sheet-exactly-when : (n : ℕ) (q : List Float) (params : Params) (r : Refusal) → (newSheet f n q params .refusal ≡ verdict r) ↔ Due f (newAsks n [] q params) [] r
   sheet-exactly-when = new-sheet-exactly f
+
+  pub sheet-taken-when : (n : ℕ) (q : List Float) (params : Params) → (newSheet f n q params .refusal ≡ taken) ↔ ((d : Cause) → Applies f (newAsks n [] q params) [] d → ⊥)
+  sheet-taken-when = new-sheet-taken f
 
   -- of point k of a lent list,
   pub point-exactly-when : (l : List Float) (n k : ℕ) (r : Refusal) → (pointRefusal f l n k ≡ verdict r) ↔ Due f (pointAsks f l n k) [] r
   point-exactly-when = point-exactly f
 
-  pub point-taken-when : (l : List Float) (n k : ℕ) → (pointRefusal f l n k .number ≡ 0) ↔ ((d : Cause) → Applies f (pointAsks f l n k) [] d → ⊥)
+  pub point-taken-when : (l : List Float) (n k : ℕ) → (pointRefusal f l n k ≡ taken) ↔ ((d : Cause) → Applies f (pointAsks f l n k) [] d → ⊥)
   point-taken-when = point-taken f
 
   -- of the wrap: 56 at 0 exactly when d or h isn't finite, 6 exactly when both are and h isn't above 0 or 2h isn't finite, and no other number,
@@ -118,7 +124,7 @@ module _ (f : Format) where
       → (refusal (wrapOf f d h) ≡ verdict r) ↔ (((r ≡ badLone) × (NotFinite d ⊎ NotFinite h)) ⊎ ((r ≡ PARAM) × (NotFinite d ⊎ NotFinite h → ⊥) × (NotAbove h ⊎ NotFinite (add f h h))))
   wrap-exactly-when = wrap-exactly f
 
-  pub wrap-taken-when : (d h : Float) → (refusal (wrapOf f d h) .number ≡ 0) ↔ ((NotFinite d ⊎ NotFinite h → ⊥) × (NotAbove h ⊎ NotFinite (add f h h) → ⊥))
+  pub wrap-taken-when : (d h : Float) → (refusal (wrapOf f d h) ≡ taken) ↔ ((NotFinite d ⊎ NotFinite h → ⊥) × (NotAbove h ⊎ NotFinite (add f h h) → ⊥))
   wrap-taken-when = wrap-taken f
 
   -- a refused wrap gives +0,
@@ -129,13 +135,20 @@ module _ (f : Format) where
   pub root-exactly-when : (x : Float) (r : Refusal) → (refusal (rootOutcome f x) ≡ verdict r) ↔ ((r ≡ badLone) × (NotFinite x ⊎ Below x))
   root-exactly-when = root-exactly f
 
+  pub root-taken-when : (x : Float) → (refusal (rootOutcome f x) ≡ taken) ↔ (NotFinite x ⊎ Below x → ⊥)
+  root-taken-when = root-taken f
+
   -- and of the check of a kind (the half-turn of a plain one is +0, which is finite).
   pub kind-exactly-when : (k : Kind) (r : Refusal)
       → (refusal (kindOf f k) ≡ verdict r) ↔ (((r ≡ badLone) × NotFinite (halfOf k)) ⊎ ((r ≡ PARAM) × (NotFinite (halfOf k) → ⊥) × UnfitTurn f (k .residual)))
   kind-exactly-when = kind-exactly f
 
-  pub kind-taken-when : (k : Kind) → (refusal (kindOf f k) .number ≡ 0) ↔ ((NotFinite (halfOf k) → ⊥) × (UnfitTurn f (k .residual) → ⊥))
+  pub kind-taken-when : (k : Kind) → (refusal (kindOf f k) ≡ taken) ↔ ((NotFinite (halfOf k) → ⊥) × (UnfitTurn f (k .residual) → ⊥))
   kind-taken-when = kind-taken f
+
+  -- Each of these ends so too, with 0 at place 0 or with a refusal's number at its place, being `refusal` of an outcome.
+  pub so-do-the-others : {A : Type 0} (o : Outcome A) → (refusal o ≡ taken) ⊎ ((r : Refusal) × (refusal o ≡ verdict r))
+  so-do-the-others = one-of
 
   -- So 3 is given exactly when the call doesn't fit what is open, and n outside 1 to 8 gets 1 from every call that 3 doesn't stop.
   pub stage-when : (s : Filter) (c : Call) → (step f s c .reply .refusal ≡ verdict STAGE) ↔ (fits c (s .track .stage) ≡ false)
@@ -157,22 +170,30 @@ module _ (f : Format) where
 
   -- ---- places
 
-  -- 51 to 56 tell the place of the first number that isn't finite, of the first slice that has one (`FirstBad`); it is one number at the most;
+  -- 51 to 56 tell the place of the first number that isn't finite, of the first slice that has one (`FirstBad`): there is one where a number isn't finite, and one at the most;
+  pub some-first-bad : (l : List Input) → Some (λ (x : Input). Some NotFinite (x .numbers)) l ↔ ((s : Slice) × (i : ℕ) × FirstBad s i l)
+  some-first-bad = some-bad
+
   pub one-first-bad : {s t : Slice} {i j : ℕ} {l : List Input} → FirstBad s i l → FirstBad t j l → NUMBER s i ≡ NUMBER t j
   one-first-bad = one-bad
 
-  -- what a call searches, in this order: a close of a correction R, the observed points and z, and then the half-turns of its own kinds, each at its index; the others the one slice that they are lent, or lone values.
+  -- what a call searches, in this order: a close of a correction R, the observed points and z, and then the half-turns of its own kinds, of which the flat one has none; a call that sets, and the close of a prediction, the one slice that it is lent, or its lone values; the opens, abandon and the readings nothing.
   pub searched-by : (s : Filter) (c : Call) → asks s c .inputs ≡ searches (s .sheet .n) c
   searched-by = searches-so
 
-  -- 7 and 8 tell the row of the first bad pivot: it isn't finite or isn't above 0, and the rows before it are right, their pivots good;
-  pub pivot-row : (a : List Float) (n j : ℕ) → n ≤ 8 → (worked (factorOf f PIVOT a n) ≡ refused (PIVOT j)) ↔ BadPivot f PIVOT a n j
-  pivot-row a n j h = row-exactly f PIVOT a n h j (λ i e. verdict-row e) (λ e. omega (arith, number-of (ap verdict e)))
+  -- A bad half-turn is told at the index of its own kind: kind i is the turn by it, and plain kinds keep their places.
+  pub half-turn-place : (ks : List Kind) (i : ℕ) → FirstIn (halves ks) i → (h : Float) × (getD ks i plain .residual ≡ Turn h) × NotFinite h
+  half-turn-place = turn-at
 
-  pub innovation-row : (a : List Float) (n j : ℕ) → n ≤ 8 → (worked (factorOf f INNOV a n) ≡ refused (INNOV j)) ↔ BadPivot f INNOV a n j
-  innovation-row a n j h = row-exactly f INNOV a n h j (λ i e. verdict-row e) (λ e. omega (arith, number-of (ap verdict e)))
+  -- 7 tells the row of the first bad pivot of P: it isn't finite or isn't above 0, and the columns before it are right, their pivots good (`BadPivot`). Of what an open lists (below) it is the first to fail;
+  pub pivot-row : (n j : ℕ) (x p : List Float) (scale : Float) → n ≤ 8 → FirstFails (PIVOT j) (listedAtOpen f n x p scale) ↔ BadPivot f PIVOT p n j
+  pivot-row = open-pivot f
 
-  -- and every other answer tells place 0.
+  -- 8 tells that of S, once z mean, S, x mean and cross covariance are finite;
+  pub innovation-row : (h : Head) (j : ℕ) → h .m ≤ 8 → FirstFails (INNOV j) (listedAtCorrection f h) ↔ ((Some Fails (listedAtHead f h) → ⊥) × BadPivot f INNOV (h .s) (h .m) j)
+  innovation-row = correction-pivot f
+
+  -- and every other refusal tells place 0.
   pub no-other-place : (r : Refusal) → placeOf r ≢ 0 → (50 < number r) ⊎ ((number r ≡ 7) ⊎ (number r ≡ 8))
   no-other-place = told-by
 

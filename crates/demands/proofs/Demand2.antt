@@ -66,7 +66,7 @@ at l i = getD l i nan
 cell-before : (i k n j : ℕ) → i < k → j < n → i * n + j < k * n
 cell-before i k n j h l = omega (arith, row-before i k n h)
 
--- ---- Root: `square_root` (crate root) is `rootOutcome`: `rootOf`, or 5
+-- ---- Root: `square_root` (crate root) is `rootOutcome`: `rootOf`, or 56 at 0
 
 -- no value of the format is nearer to the exact root
 pub root-nearest : (f : Format) (x : Float) → T (fits f x) → T (rooted x) → Nearest f x (rootOf f x)

@@ -38,11 +38,11 @@ use Rattle.demands.proofs.Rows.{Means, itself, turned, reworded, none, 
 -- ---- the results of the steps
 
 -- the first that fails, by the tests and in words
-first-words : {r : Refusal} {vs : List Result} → First r vs → FirstFails r vs
+pub first-words : {r : Refusal} {vs : List Result} → First r vs → FirstFails r vs
 first-words (now {v = v} h) = Row.now (well v .fails h)
 first-words (later {v = v} h w) = Row.later (λ b. well v .passes h b) (first-words w)
 
-first-tests : {r : Refusal} {vs : List Result} → FirstFails r vs → First r vs
+pub first-tests : {r : Refusal} {vs : List Result} → FirstFails r vs → First r vs
 first-tests (Row.now {v = v} b) = now (by-fails (good v) refl)
   where
     by-fails : (t : Bool) → good v ≡ t → good v ≡ false
@@ -200,11 +200,11 @@ module _ (f : Format) (a : Asks) (vs : List Result) where
         (cmp (rank (i .0)) (rank (d .cause)))
     due-given (accepted y) r i d = absurd (i (d .cause) (omega arith) (d .applies))
 
-    free : (o : Outcome A) → Right 0 o → refusal o .number ≡ 0 → (c : Cause) → Applies f a vs c → ⊥
-    free (refused q) i e c x = omega (arith, number-above q)
+    free : (o : Outcome A) → Right 0 o → refusal o ≡ taken → (c : Cause) → Applies f a vs c → ⊥
+    free (refused q) i e c x = omega (arith, number-above q, number-of e)
     free (accepted y) i e c x = i c (omega arith) x
 
-    free-taken : (o : Outcome A) → Right 0 o → ((c : Cause) → Applies f a vs c → ⊥) → refusal o .number ≡ 0
+    free-taken : (o : Outcome A) → Right 0 o → ((c : Cause) → Applies f a vs c → ⊥) → refusal o ≡ taken
     free-taken (refused q) i n = absurd (n (i .0) (i .3))
     free-taken (accepted y) i n = refl
 
@@ -213,7 +213,7 @@ module _ (f : Format) (a : Asks) (vs : List Result) where
     guarded-exactly o i r = (due (guarded f a o) r (right o i), due-given (guarded f a o) r (right o i))
 
     -- and are accepted just where no row applies
-    pub guarded-taken : (o : Outcome A) → Ends vs o → (refusal (guarded f a o) .number ≡ 0) ↔ ((c : Cause) → Applies f a vs c → ⊥)
+    pub guarded-taken : (o : Outcome A) → Ends vs o → (refusal (guarded f a o) ≡ taken) ↔ ((c : Cause) → Applies f a vs c → ⊥)
     guarded-taken o i = (free (guarded f a o) (right o i), free-taken (guarded f a o) (right o i))
 
 -- ---- EXACTLY WHEN: every call, New, and point k of a list
@@ -231,7 +231,7 @@ module _ (f : Format) where
     pub exactly : (r : Refusal) → (step f s c .reply .refusal ≡ verdict r) ↔ Due f (asks (seen s) c) (planned (plan f (seen s) c)) r
     exactly r = rw step-told (guarded-exactly f (asks (seen s) c) (planned (plan f (seen s) c)) (run (plan f (seen s) c)) (plan-ends (plan f (seen s) c)) r)
 
-    pub taken-exactly : (step f s c .reply .refusal .number ≡ 0) ↔ ((d : Cause) → Applies f (asks (seen s) c) (planned (plan f (seen s) c)) d → ⊥)
+    pub taken-exactly : (step f s c .reply .refusal ≡ taken) ↔ ((d : Cause) → Applies f (asks (seen s) c) (planned (plan f (seen s) c)) d → ⊥)
     taken-exactly = rw step-told (guarded-taken f (asks (seen s) c) (planned (plan f (seen s) c)) (run (plan f (seen s) c)) (plan-ends (plan f (seen s) c)))
 
   module _ (n : ℕ) (x p q : List Float) (params : Params) where
@@ -239,7 +239,7 @@ module _ (f : Format) where
     unfolding newOf
     new-exactly r = guarded-exactly f (newAsks n (from x p ∷ []) q params) [] (accepted _) no-first r
 
-    pub new-taken : (newAnswer f n x p q params .refusal .number ≡ 0) ↔ ((c : Cause) → Applies f (newAsks n (from x p ∷ []) q params) [] c → ⊥)
+    pub new-taken : (newAnswer f n x p q params .refusal ≡ taken) ↔ ((c : Cause) → Applies f (newAsks n (from x p ∷ []) q params) [] c → ⊥)
     unfolding newOf
     new-taken = guarded-taken f (newAsks n (from x p ∷ []) q params) [] (accepted _) no-first
 
@@ -248,16 +248,24 @@ module _ (f : Format) where
   unfolding newTrackOf
   new-track-exactly n s r = guarded-exactly f (startAsks n s) [] (accepted _) no-first r
 
+  pub new-track-taken : (n : ℕ) (s : Start) → (newTrack f n s .refusal ≡ taken) ↔ ((c : Cause) → Applies f (startAsks n s) [] c → ⊥)
+  unfolding newTrackOf
+  new-track-taken n s = guarded-taken f (startAsks n s) [] (accepted _) no-first
+
   pub new-sheet-exactly : (n : ℕ) (q : List Float) (params : Params) (r : Refusal) → (newSheet f n q params .refusal ≡ verdict r) ↔ Due f (newAsks n [] q params) [] r
   unfolding newSheetOf
   new-sheet-exactly n q params r = guarded-exactly f (newAsks n [] q params) [] (accepted _) no-first r
+
+  pub new-sheet-taken : (n : ℕ) (q : List Float) (params : Params) → (newSheet f n q params .refusal ≡ taken) ↔ ((c : Cause) → Applies f (newAsks n [] q params) [] c → ⊥)
+  unfolding newSheetOf
+  new-sheet-taken n q params = guarded-taken f (newAsks n [] q params) [] (accepted _) no-first
 
   module _ (l : List Float) (n k : ℕ) where
     pub point-exactly : (r : Refusal) → (pointRefusal f l n k ≡ verdict r) ↔ Due f (pointAsks f l n k) [] r
     unfolding pointRefusal
     point-exactly r = guarded-exactly f (pointAsks f l n k) [] (accepted _) no-first r
 
-    pub point-taken : (pointRefusal f l n k .number ≡ 0) ↔ ((c : Cause) → Applies f (pointAsks f l n k) [] c → ⊥)
+    pub point-taken : (pointRefusal f l n k ≡ taken) ↔ ((c : Cause) → Applies f (pointAsks f l n k) [] c → ⊥)
     unfolding pointRefusal
     point-taken = guarded-taken f (pointAsks f l n k) [] (accepted _) no-first
 
@@ -274,10 +282,10 @@ module _ {A : Type 0} (x : A) {Bad Unfit : Type 0} where
   two-tests false u m n r =
       (λ e. inl (verdict-same (sym e), m .fails refl), ⊎-elim (λ w. ap verdict (sym (w .0))) (λ w. absurd (w .1 (m .fails refl))))
 
-  two-taken : (t u : Bool) → Means t Bad → Means u Unfit → (refusal (unless t badLone (unless u PARAM (accepted x))) .number ≡ 0) ↔ ((Bad → ⊥) × (Unfit → ⊥))
+  two-taken : (t u : Bool) → Means t Bad → Means u Unfit → (refusal (unless t badLone (unless u PARAM (accepted x))) ≡ taken) ↔ ((Bad → ⊥) × (Unfit → ⊥))
   two-taken true true m n = (λ e. (λ b. m .passes refl b, λ b. n .passes refl b), λ w. refl)
-  two-taken true false m n = (λ e. absurd (omega arith), λ w. absurd (w .1 (n .fails refl)))
-  two-taken false u m n = (λ e. absurd (omega arith), λ w. absurd (w .0 (m .fails refl)))
+  two-taken true false m n = (λ e. absurd (omega (arith, number-of e)), λ w. absurd (w .1 (n .fails refl)))
+  two-taken false u m n = (λ e. absurd (omega (arith, number-of e)), λ w. absurd (w .0 (m .fails refl)))
 
 module _ (f : Format) where
   module _ (d h : Float) where
@@ -293,7 +301,7 @@ module _ (f : Format) where
     unfolding wrapOf
     wrap-exactly r = two-tests (wrapStep f d h) (allFinite (d ∷ h ∷ [])) (halfTurn f h) both-finite (half-turn f h) r
 
-    pub wrap-taken : (refusal (wrapOf f d h) .number ≡ 0) ↔ ((NotFinite d ⊎ NotFinite h → ⊥) × (NotAbove h ⊎ NotFinite (add f h h) → ⊥))
+    pub wrap-taken : (refusal (wrapOf f d h) ≡ taken) ↔ ((NotFinite d ⊎ NotFinite h → ⊥) × (NotAbove h ⊎ NotFinite (add f h h) → ⊥))
     unfolding wrapOf
     wrap-taken = two-taken (wrapStep f d h) (allFinite (d ∷ h ∷ [])) (halfTurn f h) both-finite (half-turn f h)
 
@@ -305,13 +313,21 @@ module _ (f : Format) where
         go (refused r) n = refl
         go (accepted w) n = absurd (n refl)
 
-  -- a root is refused by 56 at 0 just where x isn't finite or is below zero, and by nothing else
-  pub root-exactly : (x : Float) (r : Refusal) → (refusal (rootOutcome f x) ≡ verdict r) ↔ ((r ≡ badLone) × (NotFinite x ⊎ Below x))
-  root-exactly x r = go (rooted x) (rooted-means x)
-    where
-      go : (t : Bool) → Means t (NotFinite x ⊎ Below x) → (refusal (unless t badLone (accepted (rootOf f x))) ≡ verdict r) ↔ ((r ≡ badLone) × (NotFinite x ⊎ Below x))
-      go true m = ((λ e. absurd (omega (arith, number-above r, number-of e))), (λ k. absurd (m .passes refl (k .1))))
-      go false m = ((λ e. (verdict-same (sym e), m .fails refl)), (λ k. sym (ap verdict (k .0))))
+  module _ (x : Float) where
+    -- a root is refused by 56 at 0 just where x isn't finite or is below zero, and by nothing else
+    pub root-exactly : (r : Refusal) → (refusal (rootOutcome f x) ≡ verdict r) ↔ ((r ≡ badLone) × (NotFinite x ⊎ Below x))
+    root-exactly r = go (rooted x) (rooted-means x)
+      where
+        go : (t : Bool) → Means t (NotFinite x ⊎ Below x) → (refusal (unless t badLone (accepted (rootOf f x))) ≡ verdict r) ↔ ((r ≡ badLone) × (NotFinite x ⊎ Below x))
+        go true m = ((λ e. absurd (omega (arith, number-above r, number-of e))), (λ k. absurd (m .passes refl (k .1))))
+        go false m = ((λ e. (verdict-same (sym e), m .fails refl)), (λ k. sym (ap verdict (k .0))))
+
+    pub root-taken : (refusal (rootOutcome f x) ≡ taken) ↔ (NotFinite x ⊎ Below x → ⊥)
+    root-taken = go (rooted x) (rooted-means x)
+      where
+        go : (t : Bool) → Means t (NotFinite x ⊎ Below x) → (refusal (unless t badLone (accepted (rootOf f x))) ≡ taken) ↔ (NotFinite x ⊎ Below x → ⊥)
+        go true m = (λ e b. m .passes refl b, λ n. refl)
+        go false m = (λ e. absurd (omega (arith, number-of e)), λ n. absurd (n (m .fails refl)))
 
   module _ (k : Kind) where
     -- a kind is refused by 56 at 0 just where its half-turn isn't finite, by 6 just where it is and doesn't pass, and by nothing else
@@ -319,7 +335,7 @@ module _ (f : Format) where
         → (refusal (kindOf f k) ≡ verdict r) ↔ (((r ≡ badLone) × NotFinite (halfOf k)) ⊎ ((r ≡ PARAM) × (NotFinite (halfOf k) → ⊥) × UnfitTurn f (k .residual)))
     kind-exactly r = two-tests k (finite (halfOf k)) (passes f (k .residual)) (itself (finite (halfOf k))) (turn f (k .residual)) r
 
-    pub kind-taken : (refusal (kindOf f k) .number ≡ 0) ↔ ((NotFinite (halfOf k) → ⊥) × (UnfitTurn f (k .residual) → ⊥))
+    pub kind-taken : (refusal (kindOf f k) ≡ taken) ↔ ((NotFinite (halfOf k) → ⊥) × (UnfitTurn f (k .residual) → ⊥))
     kind-taken = two-taken k (finite (halfOf k)) (passes f (k .residual)) (itself (finite (halfOf k))) (turn f (k .residual))
 
 -- ---- a result or one of the refusals; and what is refused changes nothing and hands out nothing

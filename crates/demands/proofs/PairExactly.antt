@@ -47,7 +47,7 @@ module _ (f : Format) (p : Pair) (w : Side) where
     pub pair-exactly : (r : Refusal) → (pairStep f p w c .reply .refusal ≡ verdict r) ↔ Due f (pairAsks p w c) (planned (plan f (seen (solo p w)) c)) r
     pair-exactly r = rw told-is (guarded-exactly f (pairAsks p w c) (planned (plan f (seen (solo p w)) c)) (run (plan f (seen (solo p w)) c)) (plan-ends (plan f (seen (solo p w)) c)) r)
 
-    pub pair-taken : (pairStep f p w c .reply .refusal .number ≡ 0) ↔ ((d : Cause) → Applies f (pairAsks p w c) (planned (plan f (seen (solo p w)) c)) d → ⊥)
+    pub pair-taken : (pairStep f p w c .reply .refusal ≡ taken) ↔ ((d : Cause) → Applies f (pairAsks p w c) (planned (plan f (seen (solo p w)) c)) d → ⊥)
     pair-taken = rw told-is (guarded-taken f (pairAsks p w c) (planned (plan f (seen (solo p w)) c)) (run (plan f (seen (solo p w)) c)) (plan-ends (plan f (seen (solo p w)) c)))
 
     pub pair-ends : (pairStep f p w c .reply .refusal ≡ taken) ⊎ ((r : Refusal) × (pairStep f p w c .reply .refusal ≡ verdict r))
@@ -192,6 +192,6 @@ module _ (f : Format) (n : ℕ) (x₁ p₁ x₂ p₂ q : List Float) (params : P
   unfolding newPairOf
   new-pair-exactly r = guarded-exactly f (newPairAsks n x₁ p₁ x₂ p₂ q params) [] (accepted _) no-first r
 
-  pub new-pair-taken : (newPairAnswer f n x₁ p₁ x₂ p₂ q params .refusal .number ≡ 0) ↔ ((d : Cause) → Applies f (newPairAsks n x₁ p₁ x₂ p₂ q params) [] d → ⊥)
+  pub new-pair-taken : (newPairAnswer f n x₁ p₁ x₂ p₂ q params .refusal ≡ taken) ↔ ((d : Cause) → Applies f (newPairAsks n x₁ p₁ x₂ p₂ q params) [] d → ⊥)
   unfolding newPairOf
   new-pair-taken = guarded-taken f (newPairAsks n x₁ p₁ x₂ p₂ q params) [] (accepted _) no-first

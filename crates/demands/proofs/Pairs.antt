@@ -95,7 +95,7 @@ module _ (f : Format) where
       exactly-when = pair-exactly f p w c
 
       -- and the call is taken exactly when no row applies.
-      pub taken-when : (pairStep f p w c .reply .refusal .number ≡ 0) ↔ ((d : Cause) → Applies f (pairAsks p w c) (planned (plan f (seen (solo p w)) c)) d → ⊥)
+      pub taken-when : (pairStep f p w c .reply .refusal ≡ taken) ↔ ((d : Cause) → Applies f (pairAsks p w c) (planned (plan f (seen (solo p w)) c)) d → ⊥)
       taken-when = pair-taken f p w c
 
       -- So 3 is given exactly when the call doesn't fit what is open, and n outside 1 to 8 gets 1 from every call that 3 doesn't stop.
@@ -135,7 +135,7 @@ module _ (f : Format) where
     pub new-exactly-when : (r : Refusal) → (newPairAnswer f n x₁ p₁ x₂ p₂ q params .refusal ≡ verdict r) ↔ Due f (newPairAsks n x₁ p₁ x₂ p₂ q params) [] r
     new-exactly-when = new-pair-exactly f n x₁ p₁ x₂ p₂ q params
 
-    pub new-taken-when : (newPairAnswer f n x₁ p₁ x₂ p₂ q params .refusal .number ≡ 0) ↔ ((d : Cause) → Applies f (newPairAsks n x₁ p₁ x₂ p₂ q params) [] d → ⊥)
+    pub new-taken-when : (newPairAnswer f n x₁ p₁ x₂ p₂ q params .refusal ≡ taken) ↔ ((d : Cause) → Applies f (newPairAsks n x₁ p₁ x₂ p₂ q params) [] d → ⊥)
     new-taken-when = new-pair-taken f n x₁ p₁ x₂ p₂ q params
 
     -- accepted, New accepts each start by itself too, and each side is the filter that it gives;

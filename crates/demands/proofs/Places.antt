@@ -3,9 +3,9 @@ use Prim.Native.Nat.{ℕ, zero, suc, _+_, _<_}
 use mathlib.Core.Path.{_≡_, refl, sym, ap, _∙_}
 use mathlib.Core.Bool.{Bool, true, false}
 use mathlib.Core.List.{List, [], _∷_}
-use mathlib.Core.Logic.{_≢_, _⊎_, inl, inr}
+use mathlib.Core.Logic.{_↔_, _≢_, _⊎_, inl, inr}
 use native.Mathlib.Omega.{arith}
-use lib.ListN.{getD}
+use lib.ListN.{length, getD}
 use lib.Ieee.{Float, nan}
 use lib.Ieee.Scale.{finite}
 use Rattle.floats.specs.declared.Slice.{Slice}
@@ -14,7 +14,12 @@ use Rattle.floats.specs.Numbers.{allFinite}
 use Rattle.floats.specs.Search.{Input, searchedFrom, searched}
 use Rattle.floats.proofs.Refusals.{slice-above, refused-never}
 use Rattle.floats.proofs.Search.{none-bad, all-good}
-use Rattle.demands.specs.Rows.{Some, NotFinite, FirstIn, FirstBad, found, further}
+use Rattle.angles.specs.Kinds.{plain, halfOf}
+use Rattle.angles.specs.declared.Kind.{Kind}
+use Rattle.angles.specs.declared.Residual.{Residual}
+use Rattle.angles.specs.declared.Residual.the-variants.{Plain, Turn}
+use Rattle.filter.specs.Calls.{halves}
+use Rattle.demands.specs.Rows.{Some, here, there, NotFinite, FirstIn, FirstBad, found, further}
 use Rattle.demands.proofs.Rows.{two-ways, all-finite}
 use Rattle.demands.proofs.Passed.{Pass, finiteIn, searched-finite}
 
@@ -69,6 +74,21 @@ search-words (x ∷ l) r e = go (searchedFrom (x .slice) 0 (x .numbers)) refl (s
     go (refused q) d k e = let y : q ≡ r = cc in let w = slice-words (x .slice) 0 (x .numbers) q d in let z : 0 + w .0 ≡ w .0 = omega arith in (x .slice, w .0, sym y ∙ w .1 ∙ ap (NUMBER (x .slice)) z, found (w .2))
     go (accepted t) d k e = let w = k e in (w .0, w .1, w .2, further (no-some (x .numbers) (all-good (x .slice) 0 (x .numbers) d)) (w .3))
 
+-- what passes has none
+passed-none : (l : List Input) → Pass finiteIn l → Some (λ (x : Input). Some NotFinite (x .numbers)) l → ⊥
+passed-none (x ∷ l) h (here w) = no-some (x .numbers) (h .0) w
+passed-none (x ∷ l) h (there w) = passed-none l (h .1) w
+
+-- the first bad one is a bad one
+in-slice : (v : List Float) (i : ℕ) → i < length v → NotFinite (getD v i nan) → Some NotFinite v
+in-slice [] i h b = absurd (omega arith)
+in-slice (x ∷ v) zero h b = here b
+in-slice (x ∷ v) (suc i) h b = there (in-slice v i (omega arith) b)
+
+whence : {s : Slice} {i : ℕ} {l : List Input} → FirstBad s i l → Some (λ (x : Input). Some NotFinite (x .numbers)) l
+whence {i = i} (found {x = x} w) = here (in-slice (x .numbers) i (w .inside) (w .bad))
+whence (further n w) = there (whence w)
+
 -- and by none else
 pub words-search : {s : Slice} {i : ℕ} (l : List Input) → FirstBad s i l → searched l ≡ refused (NUMBER s i)
 unfolding searched
@@ -81,6 +101,14 @@ words-search (x ∷ l) (further n w) = rw (none-bad (x .slice) 0 (x .numbers) (g
         go : (b : Bool) → allFinite v ≡ b → b ≡ true
         go true e = refl
         go false e = absurd (n (all-finite v .fails e))
+
+-- there is one just where a number isn't finite
+pub some-bad : (l : List Input) → Some (λ (x : Input). Some NotFinite (x .numbers)) l ↔ ((s : Slice) × (i : ℕ) × FirstBad s i l)
+some-bad l = (λ w. go w (searched l) refl, λ w. whence (w .2))
+  where
+    go : Some (λ (x : Input). Some NotFinite (x .numbers)) l → (o : Outcome Bool) → searched l ≡ o → (s : Slice) × (i : ℕ) × FirstBad s i l
+    go w (refused r) e = let k = search-words l r e in (k .0, k .1, k .3)
+    go w (accepted t) e = absurd (passed-none l (searched-finite l e) w)
 
 -- one number is the first
 pub one-bad : {s t : Slice} {i j : ℕ} {l : List Input} → FirstBad s i l → FirstBad t j l → NUMBER s i ≡ NUMBER t j
@@ -102,6 +130,18 @@ none-finite l n = go (searched l) refl
     go (refused r) e = let w = search-words l r e in absurd (n (w .0) (w .1) (w .3))
     go (accepted t) e = searched-finite l e
 
+-- ---- half-turns
+
+-- the kind at the place of a bad half-turn is a turn, by that number
+pub turn-at : (ks : List Kind) (i : ℕ) → FirstIn (halves ks) i → (h : Float) × (getD ks i plain .residual ≡ Turn h) × NotFinite h
+turn-at [] i w = absurd (omega (arith, w .inside))
+turn-at (k ∷ ks) zero w = by-residual (k .residual) (w .bad)
+  where
+    by-residual : (r : Residual) → NotFinite (halfOf (record { residual = r })) → (h : Float) × (r ≡ Turn h) × NotFinite h
+    by-residual Plain b = absurd (two-ways refl b)
+    by-residual (Turn h) b = (h, refl, b)
+turn-at (k ∷ ks) (suc i) w = turn-at ks i (record { inside = omega (arith, w .inside); bad = w .bad; before = λ j h b. w .before (suc j) (omega arith) b })
+
 -- ---- the places that are told
 
 pub told-by : (r : Refusal) → placeOf r ≢ 0 → (50 < number r) ⊎ ((number r ≡ 7) ⊎ (number r ≡ 8))
@@ -115,6 +155,3 @@ told-by (PIVOT j) h = inr (inl refl)
 told-by (INNOV j) h = inr (inr refl)
 told-by RANGE h = absurd (h refl)
 told-by KIND h = absurd (h refl)
-
-pub verdict-row : {q r : Refusal} → q ≡ r → placeOf q ≡ placeOf r
-verdict-row e = ap placeOf e

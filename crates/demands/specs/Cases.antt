@@ -1,20 +1,21 @@
--- THE TABLE OF CASES: document 01's numbers to check by hand, C1 to C12, and a run each for document 02's A1 (the flat close), A3 (settings mark stale) and A4 (a pair on one sheet); each a name and a test that antt computes. Definitions only.
-use Prim.Native.Nat.{ℕ}
+-- THE TABLE OF CASES: document 01's numbers to check by hand, C1 to C12, and a run each for document 02's A1 (the flat close), A3 (settings mark stale), A4 (a pair on one sheet) and A5 (where the bad number is); each a name and a test that antt computes. Definitions only.
+use Prim.Native.Nat.{ℕ, _+_}
 use Prim.Native.String.{String}
 use mathlib.Core.Bool.{Bool, true, false, _&&_, Bool·beq}
 use mathlib.Core.List.{List, [], _∷_, _++_, map}
-use lib.ListN.{take, getD, replicate}
+use lib.ListN.{length, take, getD, set, replicate}
 use lib.Dec.{eqb}
-use lib.Ieee.{Float, nan, binary64, ofBits, neg}
+use lib.Ieee.{Float, nan, inf, binary64, ofBits, neg}
 use Rattle.floats.specs.declared.Verdict.{Verdict}
-use Rattle.floats.specs.Refusal.{PIVOT, taken, Outcome, refused, accepted, refusal, or}
+use Rattle.floats.specs.Refusal.{PIVOT, placeless, taken, Outcome, refused, accepted, refusal, or}
 use Rattle.floats.specs.Numbers.{zeros}
 use Rattle.floats.specs.Fronts.{front}
 use Rattle.root.specs.Answer.{outcomeOf, answer}
 use Rattle.angles.specs.Wrap.{wrapOf, wrapped}
-use Rattle.angles.specs.Kinds.{plain}
+use Rattle.angles.specs.Kinds.{plain, kindOf}
 use Rattle.angles.specs.declared.Kind.{Kind}
-use Rattle.angles.specs.declared.Residual.the-variants.{Turn}
+use Rattle.angles.specs.declared.Residual.{Residual}
+use Rattle.angles.specs.declared.Residual.the-variants.{Plain, Turn}
 use Rattle.matrix.specs.Results.{Result, numbers, pivot, rooting, worked, results}
 use Rattle.matrix.specs.Factor.{factorOf}
 use Rattle.sigma.specs.declared.Params.{Params}
@@ -62,7 +63,7 @@ rootIs x r = accepts (outcomeOf (answer x)) r
 
 -- the wrap of d by 180
 abbrev pub wrapIs : Float → Float → Bool
-wrapIs d w = let a = wrapped (wrapOf binary64 d (int 180)) in eqb (a .refusal .number) 0 && (a .value is w)
+wrapIs d w = let a = wrapped (wrapOf binary64 d (int 180)) in says (a .refusal) 0 0 && (a .value is w)
 
 -- rows of two
 abbrev pub rows : Float → Float → Float → Float → List Float
@@ -96,13 +97,9 @@ measuringBy r z observed = closing (close-correction 1 (z ∷ []) (r ∷ []) (re
 abbrev pub measuring : Float → List Float → Call
 measuring = measuringBy (int 12)
 
--- what a call should tell: the number at its place, the numbers given, and x, P and the stale mark after it
-abbrev pub tellingAt : ℕ → ℕ → List Float → Float → Float → Bool → Told
-tellingAt number place given x p stale = record { reply = record { refusal = record { number = number; place = place }; given = given; stale = true }; x = x ∷ []; p = p ∷ []; stale = stale }
-
--- at place 0
+-- what a call should tell: the number, at place 0, the numbers given, and x, P and the stale mark after it
 abbrev pub telling : ℕ → List Float → Float → Float → Bool → Told
-telling number = tellingAt number 0
+telling number given x p stale = record { reply = record { refusal = placeless number; given = given; stale = true }; x = x ∷ []; p = p ∷ []; stale = stale }
 
 -- and a reading of the stale mark
 abbrev pub marking : Float → Float → Bool → Told
@@ -171,7 +168,7 @@ settingStory =
     ∷ ("A3 corrected by the new alpha", (measuringBy (int 3) (frac 13 2) (int 2 ∷ int 6 ∷ int 2 ∷ []), telling 0 [] (frac 13 4) (frac 75 64) true))
     ∷ []
 
--- A4 through the calls: states of 2 and 3 with P = 4 and 16, on one sheet with Q = 1 and parameters C1. While a side has a call open a sheet change through either is refused by 3, before 1 and 5, and the other side's own calls are taken. Propagated 2, 4, 0 the first has P = 4 + 1,
+-- A4 through the calls: states of 2 and 3 with P = 4 and 16, on one sheet with Q = 1 and parameters C1. While a side has a call open a sheet change through either is refused by 3, before 1 and 56, and the other side's own calls are taken. Propagated 2, 4, 0 the first has P = 4 + 1,
 -- and 5, 9, 1 the second 16 + 1. Q set through the second marks neither and is read by the first. Parameters refused by 6 mark neither; alpha = 2 through the first, so that N = 4, marks the second, which then draws 5, 5 ± 2·4 from P = 16. A turn through the second marks the first, and by it the first's prediction is C12's, P = 100 + 9.
 abbrev pub both : Pair
 both = newPairAnswer binary64 1 (int 2 ∷ []) (int 4 ∷ []) (int 3 ∷ []) (int 16 ∷ []) (int 1 ∷ []) c1 .pair
@@ -180,7 +177,7 @@ abbrev pub pairStory : List (String × (SideCall × Told))
 pairStory =
     ("A4 the first opens", (by First (setting (open-prediction three)), telling 0 (int 2 ∷ int 4 ∷ int 0 ∷ []) (int 2) (int 4) true))
     ∷ ("A4 the partner open", (by Second (writing (set-q (int 9 ∷ []))), telling 3 [] (int 3) (int 16) true))
-    ∷ ("A4 before 1 and 5", (by Second (writing (set-kind 7 (record { residual = Turn nan }))), telling 3 [] (int 3) (int 16) true))
+    ∷ ("A4 before 1 and 56", (by Second (writing (set-kind 7 (record { residual = Turn nan }))), telling 3 [] (int 3) (int 16) true))
     ∷ ("A4 itself open", (by First (writing (set-params c1)), telling 3 [] (int 2) (int 4) true))
     ∷ ("A4 its own x", (by Second (setting (set-x (int 5 ∷ []))), telling 0 [] (int 5) (int 16) true))
     ∷ ("A4 both open", (by Second (setting (open-prediction three)), telling 0 (int 5 ∷ int 9 ∷ int 1 ∷ []) (int 5) (int 16) true))
@@ -212,44 +209,84 @@ pairStory =
     ∷ ("A4 the second as it was", (by Second (reading (read-points three)), telling 4 [] (int 5) (int 16) true))
     ∷ []
 
--- A5 through the calls, on the same filter: two measurements, whose R, observed points, z and half-turns are searched in this order. Observed all 1, S is R; of R = (1 2, 2 1) the second pivot is 1 − 2·2
+-- A5 through the calls, on two states: x = (1, 2) and P = 4I by parameters with kappa = 2, so that N = 4 and the points are x and 2·2 to either side. Numbers past the front of a slice aren't searched. Of (1 2, 2 1) the second pivot is 1 − 2·2, so an open gives 7 there.
+-- A close of two measurements searches R, observed points, z and half-turns in this order; a plain kind keeps its place among the half-turns, and kinds from m up aren't read. Observed all 1, S is R.
+abbrev pub c5 : Params
+c5 = params (int 1) (int 0) (int 2)
+
+abbrev pub two : Float → Float → List Float
+two a b = a ∷ b ∷ []
+
+abbrev pub four : Float → Float → Float → Float → List Float
+four a b c d = a ∷ b ∷ c ∷ d ∷ []
+
+abbrev pub twoStates : Filter
+twoStates = newAnswer binary64 2 (two (int 1) (int 2)) (four (int 4) (int 0) (int 0) (int 4)) (four (int 1) (int 0) (int 0) (int 1)) c5 .filter
+
+-- a lent buffer of ten, and the points that come
+abbrev pub ten : List Float
+ten = replicate 10 nan
+
+abbrev pub drawnTen : List Float
+drawnTen = int 1 ∷ int 2 ∷ int 5 ∷ int 2 ∷ int 1 ∷ int 6 ∷ minus 3 ∷ int 2 ∷ int 1 ∷ minus 2 ∷ []
+
+-- ten numbers with a NaN at i and an infinity after it
+abbrev pub badAt : ℕ → List Float
+badAt i = set (set (replicate 10 (int 1)) (i + 1) (inf true)) i nan
+
+abbrev pub flawed : List Float
+flawed = four (int 1) (int 2) (int 2) (int 1)
+
 abbrev pub searching : List Float → List Float → List Float → List Kind → Call
-searching z r observed kinds = closing (close-correction 2 z r kinds observed)
+searching r observed z kinds = closing (close-correction 2 z r kinds observed)
 
-abbrev pub ones : List Float
-ones = replicate 6 (int 1)
+abbrev pub kindsOf : Residual → Residual → Residual → List Kind
+kindsOf a b c = record { residual = a } ∷ record { residual = b } ∷ record { residual = c } ∷ plain ∷ []
 
-abbrev pub turnsOf : Float → Float → List Kind
-turnsOf g h = record { residual = Turn g } ∷ record { residual = Turn h } ∷ plain ∷ plain ∷ []
-
-abbrev pub noise : List Float
-noise = int 1 ∷ int 2 ∷ int 2 ∷ int 1 ∷ []
+-- what a call should tell by which x and P = (d e, e d) stand: the number at its place and the numbers given
+abbrev pub placing : ℕ → ℕ → List Float → ℕ → ℕ → Told
+placing number place given d e = record { reply = record { refusal = record { number = number; place = place }; given = given; stale = true }; x = two (int 1) (int 2); p = four (int d) (int e) (int e) (int d); stale = true }
 
 abbrev pub placeStory : List (String × (Call × Told))
 placeStory =
-    ("A5 a state", (setting (set-x (nan ∷ [])), telling 51 [] (int 2) (int 4) true))
-    ∷ ("A5 kappa", (writing (set-params (params (int 1) (int 0) nan)), tellingAt 56 2 [] (int 2) (int 4) true))
-    ∷ ("A5 open", (setting (open-correction three), telling 0 (int 2 ∷ int 4 ∷ int 0 ∷ []) (int 2) (int 4) true))
-    ∷ ("A5 R before z", (searching (nan ∷ nan ∷ []) (int 1 ∷ int 0 ∷ nan ∷ nan ∷ []) ones (turnsOf (int 0) nan), tellingAt 53 2 [] (int 2) (int 4) true))
-    ∷ ("A5 points before z", (searching (nan ∷ nan ∷ []) noise (int 1 ∷ int 1 ∷ int 1 ∷ int 1 ∷ nan ∷ int 1 ∷ []) (turnsOf (int 0) nan), tellingAt 54 4 [] (int 2) (int 4) true))
-    ∷ ("A5 z before half-turns", (searching (int 1 ∷ nan ∷ []) noise ones (turnsOf nan nan), tellingAt 55 1 [] (int 2) (int 4) true))
-    ∷ ("A5 half-turns before 6", (searching (int 1 ∷ int 1 ∷ []) noise ones (turnsOf (int 0) nan), tellingAt 56 1 [] (int 2) (int 4) true))
-    ∷ ("A5 6", (searching (int 1 ∷ int 1 ∷ []) noise ones (turnsOf (int 0) (int 1)), telling 6 [] (int 2) (int 4) true))
-    ∷ ("A5 a pivot of S", (searching (int 1 ∷ int 1 ∷ []) noise ones (replicate 4 plain), tellingAt 8 1 [] (int 2) (int 4) true))
+    let bad : Residual = Turn nan in
+    ("A5 a state", (setting (set-x (two (int 1) nan)), placing 51 1 [] 4 0))
+    ∷ ("A5 a covariance", (setting (set-p (badAt 1)), placing 52 1 [] 4 0))
+    ∷ ("A5 a noise", (writing (set-q (badAt 3)), placing 53 3 [] 4 0))
+    ∷ ("A5 alpha", (writing (set-params (params (inf false) nan (int 2))), placing 56 0 [] 4 0))
+    ∷ ("A5 kappa", (writing (set-params (params (int 1) (int 0) nan)), placing 56 2 [] 4 0))
+    ∷ ("A5 a kind of the filter", (writing (set-kind 1 (record { residual = bad })), placing 56 0 [] 4 0))
+    ∷ ("A5 past the front", (setting (set-p (flawed ++ (nan ∷ []))), placing 0 0 [] 1 2))
+    ∷ ("A5 a pivot of P", (setting (open-prediction ten), placing 7 1 [] 1 2))
+    ∷ ("A5 the same by a correction", (setting (open-correction ten), placing 7 1 [] 1 2))
+    ∷ ("A5 P again", (setting (set-p (four (int 4) (int 0) (int 0) (int 4))), placing 0 0 [] 4 0))
+    ∷ ("A5 a prediction", (setting (open-prediction ten), placing 0 0 drawnTen 4 0))
+    ∷ ("A5 a point", (closing (close-prediction (badAt 7)), placing 54 7 [] 4 0))
+    ∷ ("A5 given up", (abandon, placing 0 0 [] 4 0))
+    ∷ ("A5 a correction", (setting (open-correction ten), placing 0 0 drawnTen 4 0))
+    ∷ ("A5 R first", (searching (badAt 2) (badAt 0) (badAt 0) (kindsOf bad bad Plain), placing 53 2 [] 4 0))
+    ∷ ("A5 points before z", (searching flawed (badAt 4) (badAt 0) (kindsOf bad bad Plain), placing 54 4 [] 4 0))
+    ∷ ("A5 z before half-turns", (searching flawed (replicate 10 (int 1)) (badAt 1) (kindsOf bad bad Plain), placing 55 1 [] 4 0))
+    ∷ ("A5 a plain kind keeps its place", (searching flawed (replicate 10 (int 1)) (two (int 1) (int 1)) (kindsOf Plain bad Plain), placing 56 1 [] 4 0))
+    ∷ ("A5 half-turns before 6", (searching flawed (replicate 10 (int 1)) (two (int 1) (int 1)) (kindsOf (Turn (int 0)) bad Plain), placing 56 1 [] 4 0))
+    ∷ ("A5 6 tells no place", (searching flawed (replicate 10 (int 1)) (two (int 1) (int 1)) (kindsOf Plain (Turn (int 0)) Plain), placing 6 0 [] 4 0))
+    ∷ ("A5 a pivot of S", (searching flawed (replicate 10 (int 1)) (two (int 1) (int 1)) (kindsOf Plain Plain bad), placing 8 1 [] 4 0))
+    ∷ ("A5 flat, R first", (closing (close-correction-flat 2 (badAt 0) (badAt 3) (badAt 0)), placing 53 3 [] 4 0))
+    ∷ ("A5 flat, points before z", (closing (close-correction-flat 2 (badAt 0) flawed (badAt 9)), placing 54 9 [] 4 0))
+    ∷ ("A5 flat, a pivot of S", (closing (close-correction-flat 2 (two (int 1) (int 1)) flawed (replicate 10 (int 1))), placing 8 1 [] 4 0))
     ∷ []
 
--- New of two states, by its P
-abbrev pub newSays : List Float → List Float → ℕ → ℕ → Bool
-newSays x p number place = says (newAnswer binary64 2 x p (int 1 ∷ int 0 ∷ int 0 ∷ int 1 ∷ []) c4 .refusal) number place
+-- New of two states, and of a pair of them: a refused one has no states (`refused-new` in Demand1 and Pairs has all of it)
+abbrev pub newIs : List Float → List Float → List Float → Params → ℕ → ℕ → Bool
+newIs x p q par number place = let a = newAnswer binary64 2 x p q par in says (a .refusal) number place && eqb (a .filter .sheet .n) 0
 
--- New of a pair: a short P of the second comes before a number of the first, a number of the second before the parameters; a refused one has no states (`refused-new` in Pairs has all of it)
-abbrev pub newPairIs : List Float → List Float → List Float → List Float → Params → ℕ → Bool
-newPairIs x₁ p₁ x₂ p₂ par number = let a = newPairAnswer binary64 1 x₁ p₁ x₂ p₂ (int 1 ∷ []) par in says (a .refusal) number 0 && eqb (a .pair .sheet .n) 0
+abbrev pub newPairIs : ℕ → List Float → List Float → List Float → List Float → List Float → Params → ℕ → ℕ → Bool
+newPairIs n x₁ p₁ x₂ p₂ q par number place = let a = newPairAnswer binary64 n x₁ p₁ x₂ p₂ q par in says (a .refusal) number place && eqb (a .pair .sheet .n) 0
 
 abbrev pub agrees : Told → Told → Bool
 agrees t e =
     says (t .reply .refusal) (e .reply .refusal .number) (e .reply .refusal .place)
-    && ((t .reply .given are e .reply .given) && (Bool·beq (t .reply .stale) (e .reply .stale) && ((take 1 (t .x) are e .x) && ((take 1 (t .p) are e .p) && Bool·beq (t .stale) (e .stale)))))
+    && ((t .reply .given are e .reply .given) && (Bool·beq (t .reply .stale) (e .reply .stale) && ((take (length (e .x)) (t .x) are e .x) && ((take (length (e .p)) (t .p) are e .p) && Bool·beq (t .stale) (e .stale)))))
 
 abbrev pub against : {A : Type 0} → List (String × (A × Told)) → List Told → List (String × Bool)
 against [] ts = []
@@ -284,10 +321,13 @@ leafCases =
     ∷ ("C7", take 4 (or [] (worked (factorOf binary64 PIVOT (rows (int 4) (int 2) (int 2) (int 5)) 2))) are (int 2 ∷ int 0 ∷ int 1 ∷ int 2 ∷ []))
     ∷ ("C8 second pivot", checked (getD (results (factorOf binary64 PIVOT (rows (int 1) (int 2) (int 2) (int 1)) 2)) 2 (numbers [])) is minus 3)
     ∷ ("C8 refused", says (refusal (worked (factorOf binary64 PIVOT (rows (int 1) (int 2) (int 2) (int 1)) 2))) 7 1)
-    ∷ ("A5 the first of two", newSays (int 1 ∷ int 2 ∷ []) (int 1 ∷ nan ∷ nan ∷ int 1 ∷ []) 52 1)
-    ∷ ("A5 x before P", newSays (int 1 ∷ nan ∷ []) (nan ∷ int 0 ∷ int 0 ∷ int 1 ∷ []) 51 1)
     ∷ ("A5 root of −1", says (refusal (outcomeOf (answer (minus 1)))) 56 0)
+    ∷ ("A5 root of an infinity", says (refusal (outcomeOf (answer (inf false)))) 56 0)
     ∷ ("A5 wrap of a NaN", says (wrapped (wrapOf binary64 nan (int 180)) .refusal) 56 0)
+    ∷ ("A5 wrap by an infinity", says (wrapped (wrapOf binary64 (int 1) (inf false)) .refusal) 56 0)
+    ∷ ("A5 wrap by 0", says (wrapped (wrapOf binary64 (int 1) (int 0)) .refusal) 6 0)
+    ∷ ("A5 a turn by a NaN", says (refusal (kindOf binary64 (record { residual = Turn nan }))) 56 0)
+    ∷ ("A5 a turn by 0", says (refusal (kindOf binary64 (record { residual = Turn (int 0) }))) 6 0)
     ∷ ("C10 S", take 1 (c10 .s) are (int 16 ∷ []))
     ∷ ("C10 K", take 1 (gain binary64 c10) are (frac 1 4 ∷ []))
     ∷ ("C12 mean", take 1 (meanOf binary64 (int 179 ∷ minus 171 ∷ int 169 ∷ []) 1 2 (w0mOf binary64 1 c1) (weightsOf binary64 1 c1) (record { residual = Turn (int 180) } ∷ [])) are (int 179 ∷ []))
@@ -302,14 +342,26 @@ flatCases = against flatStory (told binary64 at-first (map (λ e. e .1 .0) flatS
 abbrev pub settingCases : List (String × Bool)
 settingCases = against settingStory (told binary64 at-first (map (λ e. e .1 .0) settingStory))
 
+-- New with two bad numbers each; the parameters without one fail 6, as kappa = −2 makes N 0
 abbrev pub placeCases : List (String × Bool)
-placeCases = against placeStory (told binary64 at-first (map (λ e. e .1 .0) placeStory))
+placeCases =
+    let fine : List Float = replicate 10 (int 1) in
+    let unfit : Params = params (int 1) (int 0) (minus 2) in
+    ("A5 New, x before P", newIs (badAt 1) (badAt 0) fine unfit 51 1)
+    ∷ ("A5 New, P before Q", newIs fine (badAt 3) (badAt 0) unfit 52 3)
+    ∷ ("A5 New, Q before parameters", newIs fine fine (badAt 2) (params nan nan nan) 53 2)
+    ∷ ("A5 New, beta before kappa", newIs fine fine fine (params (int 1) nan nan) 56 1)
+    ∷ ("A5 New, 6", newIs fine fine fine unfit 6 0)
+    ∷ ("A5 New of a pair, the first P before the second x", newPairIs 2 fine (badAt 2) (badAt 0) fine fine unfit 52 2)
+    ∷ ("A5 New of a pair, the second x before its P", newPairIs 2 fine fine (badAt 1) (badAt 0) fine unfit 51 1)
+    ∷ ("A5 New of a pair, the second P before Q", newPairIs 2 fine fine fine (badAt 3) (badAt 0) unfit 52 3)
+    ∷ against placeStory (told binary64 twoStates (map (λ e. e .1 .0) placeStory))
 
 abbrev pub pairCases : List (String × Bool)
 pairCases =
-    ("A4 New, a short P and a number", newPairIs (nan ∷ []) (int 4 ∷ []) (int 3 ∷ []) [] c4 2)
-    ∷ ("A4 New, a number and parameters", newPairIs (int 2 ∷ []) (int 4 ∷ []) (int 3 ∷ []) (nan ∷ []) c4 52)
-    ∷ ("A4 New, parameters", newPairIs (int 2 ∷ []) (int 4 ∷ []) (int 3 ∷ []) (int 4 ∷ []) c4 6)
+    ("A4 New, a short P and a number", newPairIs 1 (nan ∷ []) (int 4 ∷ []) (int 3 ∷ []) [] (int 1 ∷ []) c4 2 0)
+    ∷ ("A4 New, a number and parameters", newPairIs 1 (int 2 ∷ []) (int 4 ∷ []) (int 3 ∷ []) (nan ∷ []) (int 1 ∷ []) c4 52 0)
+    ∷ ("A4 New, parameters", newPairIs 1 (int 2 ∷ []) (int 4 ∷ []) (int 3 ∷ []) (int 4 ∷ []) (int 1 ∷ []) c4 6 0)
     ∷ against pairStory (map (λ t. t .told) (pairTold binary64 both (map (λ e. e .1 .0) pairStory)))
 
 abbrev pub cases : List (String × Bool)

@@ -18,11 +18,12 @@ use Rattle.correction.specs.Leaves.{innovationOf, shiftedOf}
 use Rattle.correction.specs.Correct.{Head}
 
 module _ (f : Format) where
-  -- Open: each factor entry as it is made (and N, whose root is taken), then all points
+  -- Open: each factor entry as it is made, then all points (and before them N, whose root is taken)
+  abbrev pub listedAtPoints : ℕ → List Float → List Float → Float → List Result
+  listedAtPoints n x p scale = rooting scale ∷ numbers (take (pointNumbers n) (pointsOf f n x (product (factorOf f PIVOT p n)) (rootOf f scale))) ∷ []
+
   abbrev pub listedAtOpen : ℕ → List Float → List Float → Float → List Result
-  listedAtOpen n x p scale =
-      results (factorOf f PIVOT p n)
-      ++ (rooting scale ∷ numbers (take (pointNumbers n) (pointsOf f n x (product (factorOf f PIVOT p n)) (rootOf f scale))) ∷ [])
+  listedAtOpen n x p scale = results (factorOf f PIVOT p n) ++ listedAtPoints n x p scale
 
   -- Close prediction: mean, P
   abbrev pub listedAtPrediction : ℕ → List Float → Float → List Float → List Kind → List Float → List Result
@@ -48,16 +49,18 @@ module _ (f : Format) where
     abbrev pub covariance : List Float
     covariance = minusOf f (h .n * h .n) (h .p) (transbOf f (h .c) gain (h .m) (h .n) (h .n))
 
-    abbrev pub listedAtCorrection : List Result
-    listedAtCorrection =
-        numbers (take (h .m) (h .zm))
-        ∷ numbers (take (h .m * h .m) (h .s))
-        ∷ numbers (take (h .n) (h .xm))
-        ∷ numbers (take (h .n * h .m) (h .c))
-        ∷ (results (factorOf f INNOV (h .s) (h .m))
-        ++ (numbers (take (h .m * h .m) inverse)
+    -- before S's factor, and after it
+    abbrev pub listedAtHead : List Result
+    listedAtHead = numbers (take (h .m) (h .zm)) ∷ numbers (take (h .m * h .m) (h .s)) ∷ numbers (take (h .n) (h .xm)) ∷ numbers (take (h .n * h .m) (h .c)) ∷ []
+
+    abbrev pub listedAtGain : List Result
+    listedAtGain =
+        numbers (take (h .m * h .m) inverse)
         ∷ numbers (take (h .n * h .m) gain)
         ∷ numbers (take (h .m) innovation)
         ∷ numbers (take (h .n) state)
         ∷ numbers (take (h .n * h .n) covariance)
-        ∷ []))
+        ∷ []
+
+    abbrev pub listedAtCorrection : List Result
+    listedAtCorrection = listedAtHead ++ (results (factorOf f INNOV (h .s) (h .m)) ++ listedAtGain)

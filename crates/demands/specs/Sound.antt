@@ -42,7 +42,7 @@ pub record Sound (f : Format) (s : Filter) : Type 0 where
   pub x : Filled (s .sheet .n) 8 (s .track .x)
   pub p : Filled (s .sheet .n * s .sheet .n) 64 (s .track .p)
   pub q : Filled (s .sheet .n * s .sheet .n) 64 (s .sheet .q)
-  -- stored parameters and kinds have passed 5 and 6; those of the empty filter, where n = 0, pass 6 for no number of states
+  -- stored parameters and kinds have passed 56 and 6; those of the empty filter, where n = 0, pass 6 for no number of states
   pub params : allFinite (valuesOf (s .sheet .params)) ≡ true
   pub passed : 1 ≤ s .sheet .n → weightsPass f (s .sheet .n) (s .sheet .params) ≡ true
   pub kinds : allFinite (halves (s .sheet .kinds)) ≡ true

@@ -28,7 +28,7 @@ right = step binary64
 
 -- ---- what stops a build
 
--- demand 1: a number is given exactly when it is due
+-- demand 1: a number is given at its place exactly when it is due
 abbrev pub ExactlyWhen : Build → Type 0
 ExactlyWhen b = (s : Filter) (c : Call) (r : Refusal) → (b s c .reply .refusal ≡ verdict r) ↔ Due binary64 (asks (seen s) c) (planned (plan binary64 (seen s) c)) r
 

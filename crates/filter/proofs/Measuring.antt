@@ -1,12 +1,12 @@
 -- A measurement as it is lent to a close of a correction (specs/Measurement.antt): the number that its tests give, and what is taken in where that is 0. Assumes nothing.
-use Prim.Native.Nat.{ℕ, _≤_, _*_}
+use Prim.Native.Nat.{_≤_, _*_}
 use mathlib.Core.Path.{_≡_, refl, sym, ap, _∙_}
 use mathlib.Core.Bool.{Bool, true, false}
 use borrow.Author.Tests.{leb-true}
 use lib.Dec.{leb}
 use lib.ListN.{length}
 use Rattle.floats.specs.declared.Verdict.{Verdict}
-use Rattle.floats.specs.Refusal.{Outcome, accepted, refusal, nothing}
+use Rattle.floats.specs.Refusal.{earlier, Outcome, accepted, refusal, nothing}
 use Rattle.floats.proofs.Refusals.{number-of}
 use Rattle.floats.proofs.Search.{found-nothing}
 use Rattle.filter.specs.Asked.{inOrder}
@@ -14,7 +14,7 @@ use Rattle.filter.specs.Calls.{sized, observedNumbers, inputsMeasured, m
 use Rattle.filter.specs.declared.measurement.Intake.{Intake}
 use Rattle.filter.specs.Measurement.{Lending, sizesDo, longEnough, searchedIn, lentInOrder, takenIn, unmeasured, measured}
 use Rattle.filter.proofs.Sizes.{and-left, and-right}
-use Rattle.filter.proofs.Order.{same-number, all-pass, one-fails, alike}
+use Rattle.filter.proofs.Order.{found-in-turn, same-number, all-pass, one-fails, alike}
 use Rattle.filter.proofs.Lines.{states-le, measured-le}
 
 module _ (l : Lending) where
@@ -29,9 +29,9 @@ module _ (l : Lending) where
   lent-told = alike (λ (o : Outcome Intake). measured o .refusal) refusal whole whole refl (λ q. refl) (l .fits) (sizesDo l) (longEnough l) false (searchedIn l) (l .plain) (l .passing)
 
   -- the tests as the code makes them: past the sizes they need only be right where those pass
-  pub lent-tested : {size long : Bool} (o : Outcome Bool) {q : Verdict} → q ≡ refusal (inOrder (l .fits) size long false o (l .plain) (l .passing) nothing) → size ≡ sizesDo l → (sizesDo l ≡ true → long ≡ longEnough l) → (sizesDo l ≡ true → o ≡ searchedIn l) → q ≡ refusal (takenIn l)
-  lent-tested {size} {long} o e s t u =
-      e ∙ same-number (l .fits) size long false o (l .plain) (l .passing) (l .fits) (sizesDo l) (longEnough l) false (searchedIn l) (l .plain) (l .passing) refl s t refl u refl (λ h. refl) ∙ sym lent-number
+  pub lent-tested : {size long : Bool} (o : Outcome Bool) {found q : Verdict} → q ≡ earlier (refusal (inOrder (l .fits) size long false nothing true true nothing)) (earlier found (refusal (inOrder true true true false nothing (l .plain) (l .passing) nothing))) → found ≡ refusal o → size ≡ sizesDo l → (sizesDo l ≡ true → long ≡ longEnough l) → (sizesDo l ≡ true → o ≡ searchedIn l) → q ≡ refusal (takenIn l)
+  lent-tested {size} {long} o e d s t u =
+      found-in-turn (l .fits) size long false o (l .plain) (l .passing) e d ∙ same-number (l .fits) size long false o (l .plain) (l .passing) (l .fits) (sizesDo l) (longEnough l) false (searchedIn l) (l .plain) (l .passing) refl s t refl u refl (λ h. refl) ∙ sym lent-number
 
   pub lent-refused : (refusal (takenIn l) .number ≡ 0 → ⊥) → measured (takenIn l) ≡ unmeasured (refusal (takenIn l))
   lent-refused h =

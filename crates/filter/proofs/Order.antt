@@ -1,13 +1,13 @@
 -- The order of refusals: tests as the code makes them give the first refusal of what a call asks; where it is 0 every test has passed and the steps decide, and else it refuses. Assumes nothing.
 use native.Mathlib.Omega.{arith}
-use mathlib.Core.Path.{_≡_, refl, sym, ap, _∙_}
+use mathlib.Core.Path.{_≡_, refl, ap, _∙_}
 use mathlib.Core.Bool.{Bool, true, false}
 use mathlib.Core.List.{[]}
 use lib.Ieee.{Format}
 use Rattle.floats.specs.declared.Verdict.{Verdict}
-use Rattle.floats.specs.Refusal.{Refusal, SIZE, SHORT, STAGE, STALE, KIND, PARAM, verdict, taken, Outcome, refused, accepted, refusal, unless, onward, nothing}
+use Rattle.floats.specs.Refusal.{Refusal, SIZE, SHORT, STAGE, STALE, KIND, PARAM, verdict, taken, earlier, Outcome, refused, accepted, refusal, nothing}
 use Rattle.floats.specs.Search.{searched}
-use Rattle.floats.proofs.Refusals.{number-above}
+use Rattle.floats.proofs.Refusals.{number-above, earlier-refused}
 use Rattle.floats.proofs.Search.{found-nothing}
 use Rattle.angles.specs.Kinds.{isPlain}
 use Rattle.filter.specs.Asked.{Asks, within, long, fit, every, inOrder, guarded, firstRefusal}
@@ -54,31 +54,19 @@ alike g h x y e d true true true false (accepted t) false a₇ = d KIND
 alike g h x y e d true true true false (accepted t) true false = d PARAM
 alike g h x y e d true true true false (accepted t) true true = e
 
--- what comes before the search, by itself: a refusal of it stays; past it one that the search has found stays, and past that the last two tests decide
-module _ {A : Type 0} (a₆ a₇ : Bool) (p : Outcome A) where
-  pub early-stays : (a₁ a₂ a₃ a₄ : Bool) (o : Outcome Bool) → (refusal (inOrder a₁ a₂ a₃ a₄ nothing true true nothing) .number ≡ 0 → ⊥) → refusal (inOrder a₁ a₂ a₃ a₄ nothing true true nothing) ≡ refusal (inOrder a₁ a₂ a₃ a₄ o a₆ a₇ p)
-  unfolding inOrder
-  early-stays false a₂ a₃ a₄ o h = refl
-  early-stays true false a₃ a₄ o h = refl
-  early-stays true true false a₄ o h = refl
-  early-stays true true true true o h = refl
-  early-stays true true true false o h = absurd (h refl)
+-- what comes before the search, what the search has found and what comes after it, one after the other
+in-turn : (a₁ a₂ a₃ a₄ : Bool) (o : Outcome Bool) (a₆ a₇ : Bool) → earlier (refusal (inOrder a₁ a₂ a₃ a₄ nothing true true nothing)) (earlier (refusal o) (refusal (inOrder true true true false nothing a₆ a₇ nothing))) ≡ refusal (inOrder a₁ a₂ a₃ a₄ o a₆ a₇ nothing)
+unfolding inOrder
+in-turn false a₂ a₃ a₄ o a₆ a₇ = refl
+in-turn true false a₃ a₄ o a₆ a₇ = refl
+in-turn true true false a₄ o a₆ a₇ = refl
+in-turn true true true true o a₆ a₇ = refl
+in-turn true true true false (refused r) a₆ a₇ = earlier-refused r _
+in-turn true true true false (accepted t) a₆ a₇ = refl
 
-  early-passes : (a₁ a₂ a₃ a₄ : Bool) (o : Outcome Bool) → refusal (inOrder a₁ a₂ a₃ a₄ nothing true true nothing) .number ≡ 0 → inOrder a₁ a₂ a₃ a₄ o a₆ a₇ p ≡ onward o (λ (t : Bool). unless a₆ KIND (unless a₇ PARAM p))
-  unfolding inOrder
-  early-passes true true true false o h = refl
-  early-passes false a₂ a₃ a₄ o h = absurd (omega arith)
-  early-passes true false a₃ a₄ o h = absurd (omega arith)
-  early-passes true true false a₄ o h = absurd (omega arith)
-  early-passes true true true true o h = absurd (omega arith)
-
-  pub found-stays : (a₁ a₂ a₃ a₄ : Bool) (o : Outcome Bool) → refusal (inOrder a₁ a₂ a₃ a₄ nothing true true nothing) .number ≡ 0 → (refusal o .number ≡ 0 → ⊥) → refusal o ≡ refusal (inOrder a₁ a₂ a₃ a₄ o a₆ a₇ p)
-  found-stays a₁ a₂ a₃ a₄ (refused r) h k = sym (ap refusal (early-passes a₁ a₂ a₃ a₄ (refused r) h))
-  found-stays a₁ a₂ a₃ a₄ (accepted t) h k = absurd (k refl)
-
-  pub found-passes : (a₁ a₂ a₃ a₄ : Bool) (o : Outcome Bool) → refusal (inOrder a₁ a₂ a₃ a₄ nothing true true nothing) .number ≡ 0 → refusal o .number ≡ 0 → inOrder a₁ a₂ a₃ a₄ o a₆ a₇ p ≡ unless a₆ KIND (unless a₇ PARAM p)
-  found-passes a₁ a₂ a₃ a₄ (refused r) h k = absurd (omega (arith, number-above r))
-  found-passes a₁ a₂ a₃ a₄ (accepted t) h k = early-passes a₁ a₂ a₃ a₄ (accepted t) h
+-- v is what was found, and r what is told then; o is the search that has found it
+pub found-in-turn : (a₁ a₂ a₃ a₄ : Bool) (o : Outcome Bool) (a₆ a₇ : Bool) {v r : Verdict} → r ≡ earlier (refusal (inOrder a₁ a₂ a₃ a₄ nothing true true nothing)) (earlier v (refusal (inOrder true true true false nothing a₆ a₇ nothing))) → v ≡ refusal o → r ≡ refusal (inOrder a₁ a₂ a₃ a₄ o a₆ a₇ nothing)
+found-in-turn a₁ a₂ a₃ a₄ o a₆ a₇ e d = e ∙ ap (λ (u : Verdict). earlier (refusal (inOrder a₁ a₂ a₃ a₄ nothing true true nothing)) (earlier u (refusal (inOrder true true true false nothing a₆ a₇ nothing)))) d ∙ in-turn a₁ a₂ a₃ a₄ o a₆ a₇
 
 -- ---- over what a call asks
 
@@ -103,10 +91,14 @@ pub record Gives (f : Format) (a : Asks) : Type 0 where
   pub is : told ≡ firstRefusal f a
 
 module _ (f : Format) (a : Asks) where
-  -- the tests as the code makes them, and what its search o has found: past the sizes they need only be right where those pass
-  pub tested : {fits sized long' stale : Bool} (o : Outcome Bool) {plain pass : Bool} {r : Verdict} → r ≡ refusal (inOrder fits sized long' stale o plain pass nothing) → fits ≡ a .fits → sized ≡ every within (a .sizes) → (every within (a .sizes) ≡ true → long' ≡ every long (a .lent)) → stale ≡ a .stale → (every within (a .sizes) ≡ true → o ≡ searched (a .inputs)) → plain ≡ every isPlain (a .plain) → (every within (a .sizes) ≡ true → pass ≡ every (fit f) (a .params)) → r ≡ firstRefusal f a
+  -- the tests as the code makes them, where no numbers are searched: past the sizes they need only be right where those pass
+  pub tested-early : {fits sized long' stale : Bool} (o : Outcome Bool) {plain pass : Bool} {r : Verdict} → r ≡ refusal (inOrder fits sized long' stale o plain pass nothing) → fits ≡ a .fits → sized ≡ every within (a .sizes) → (every within (a .sizes) ≡ true → long' ≡ every long (a .lent)) → stale ≡ a .stale → (every within (a .sizes) ≡ true → o ≡ searched (a .inputs)) → plain ≡ every isPlain (a .plain) → (every within (a .sizes) ≡ true → pass ≡ every (fit f) (a .params)) → r ≡ firstRefusal f a
   unfolding firstRefusal
-  tested {fits} {sized} {long'} {stale} o {plain} {pass} e e₁ e₂ e₃ e₄ e₅ e₆ e₇ = e ∙ same-number fits sized long' stale o plain pass (a .fits) (every within (a .sizes)) (every long (a .lent)) (a .stale) (searched (a .inputs)) (every isPlain (a .plain)) (every (fit f) (a .params)) e₁ e₂ e₃ e₄ e₅ e₆ e₇
+  tested-early {fits} {sized} {long'} {stale} o {plain} {pass} e e₁ e₂ e₃ e₄ e₅ e₆ e₇ = e ∙ same-number fits sized long' stale o plain pass (a .fits) (every within (a .sizes)) (every long (a .lent)) (a .stale) (searched (a .inputs)) (every isPlain (a .plain)) (every (fit f) (a .params)) e₁ e₂ e₃ e₄ e₅ e₆ e₇
+
+  -- and with what a search o has found
+  pub tested : {fits sized long' stale : Bool} (o : Outcome Bool) {found : Verdict} {plain pass : Bool} {r : Verdict} → r ≡ earlier (refusal (inOrder fits sized long' stale nothing true true nothing)) (earlier found (refusal (inOrder true true true false nothing plain pass nothing))) → found ≡ refusal o → fits ≡ a .fits → sized ≡ every within (a .sizes) → (every within (a .sizes) ≡ true → long' ≡ every long (a .lent)) → stale ≡ a .stale → (every within (a .sizes) ≡ true → o ≡ searched (a .inputs)) → plain ≡ every isPlain (a .plain) → (every within (a .sizes) ≡ true → pass ≡ every (fit f) (a .params)) → r ≡ firstRefusal f a
+  tested {fits} {sized} {long'} {stale} o {plain = plain} {pass = pass} e d = tested-early o (found-in-turn fits sized long' stale o plain pass e d)
 
   pub passed : firstRefusal f a .number ≡ 0 → Passed f a
   unfolding firstRefusal

@@ -64,7 +64,7 @@ abbrev pub every : {A : Type 0} → (A → Bool) → List A → Bool
 every t [] = true
 every t (x ∷ l) = t x && every t l
 
--- ---- the order: 3, 1, 2, 4, what the search comes to (51 to 56), 10, 6, then what the steps o come to (7, 8 and 9 as they meet them)
+-- ---- the order: 3, 1, 2, 4, what the search comes to (51 to 56), 10, 6, then what the steps o come to (7, 8 and 9 as they meet them, and 56 for an N without a root)
 
 unfoldable pub inOrder : {A : Type 0} → Bool → Bool → Bool → Bool → Outcome Bool → Bool → Bool → Outcome A → Outcome A
 inOrder fits sized long stale found plain pass o =

@@ -87,12 +87,12 @@ sized v from to = record { value = v; from = from; to = to } ∷ []
 abbrev pub lend : List Float → ℕ → List Lent
 lend slice needs = record { slice = slice; needs = needs } ∷ []
 
--- the numbers that kinds bring in, each at its place
+-- the number that each kind brings in, at the kind's own index: a plain one keeps its place
 abbrev pub halves : List Kind → List Float
 halves [] = []
 halves (k ∷ ks) = halfOf k ∷ halves ks
 
--- those of the parameters
+-- alpha, beta and kappa, lone values at 0, 1 and 2
 abbrev pub valuesOf : Params → List Float
 valuesOf p = p .alpha ∷ p .beta ∷ p .kappa ∷ []
 

@@ -24,7 +24,7 @@ pub record Lending : Type 0 where
   pub passing : Bool
 
 module _ (l : Lending) where
-  -- 1, 2 and 51 to 56 of what is lent
+  -- 1, 2 and 53 to 56 of what is lent
   abbrev pub sizesDo : Bool
   sizesDo = every within (record { value = l .n; from = 1; to = 8 } ∷ sized (l .m) 1 4)
 

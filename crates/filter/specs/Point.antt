@@ -30,6 +30,6 @@ module _ (f : Format) (l : List Float) (n k : ℕ) where
   pointOf = or [] pointAt
 
   -- where the part begins: a block, and an offset in bytes, 8 for each number before it; of a refusal, where the list begins
-  unfoldable pub pointPlace : ℕ × ℕ → ℕ × ℕ
+  unfoldable pub pointStart : ℕ × ℕ → ℕ × ℕ
   unfolding pointRefusal
-  pointPlace at = (at .0, cond (eqb (pointRefusal .number) 0) (k * n * 8 + at .1) (0 * 8 + at .1))
+  pointStart at = (at .0, cond (eqb (pointRefusal .number) 0) (k * n * 8 + at .1) (0 * 8 + at .1))

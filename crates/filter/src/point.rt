@@ -2,7 +2,7 @@
 ghost use mathlib.Core.Path.{_≡_};
 ghost use lib.Ieee.{binary64};
 ghost use denote.Ref.{ptr};
-ghost use Rattle.filter.specs.Point.{pointRefusal, pointOf, pointPlace};
+ghost use Rattle.filter.specs.Point.{pointRefusal, pointOf, pointStart};
 use crate::tests;
 use floats::Verdict;
 
@@ -18,7 +18,7 @@ pub fn point_refusal(list: &[f64], n: usize, k: usize) -> Verdict
 
 pub fn point(list: &[f64], n: usize, k: usize) -> &[f64]
     ensures { λ r. ⌜ now r ≡ pointOf binary64 (now (list .entry)) n k ⌝ }
-    ensures { λ r. ⌜ ptr r ≡ pointPlace binary64 (now (list .entry)) n k (ptr (list .entry)) ⌝ }
+    ensures { λ r. ⌜ ptr r ≡ pointStart binary64 (now (list .entry)) n k (ptr (list .entry)) ⌝ }
 {
     let refusal = point_refusal(list, n, k);
     if refusal.number == 0 {

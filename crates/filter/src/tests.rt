@@ -1,12 +1,12 @@
 // What the calls test before they are taken, a function for each test, and the order of the refusals. None of them asks anything; where a test is about sizes that may not do, it is right once they do.
 ghost use mathlib.Core.Path.{_≡_};
-ghost use mathlib.Core.Bool.{Bool, true, false, _&&_, cond};
+ghost use mathlib.Core.Bool.{true, false, _&&_, cond};
 ghost use mathlib.Core.List.{[], _++_};
 ghost use Prim.Native.Nat.{_+_, _*_};
 ghost use lib.Dec.{leb};
 ghost use lib.ListN.{take};
 ghost use lib.Ieee.{binary64};
-ghost use Rattle.floats.specs.Refusal.{Outcome, refusal, nothing};
+ghost use Rattle.floats.specs.Refusal.{earlier, refusal, nothing};
 ghost use Rattle.floats.specs.Search.{input};
 ghost use Rattle.angles.specs.Kinds.{isPlain};
 ghost use Rattle.sigma.specs.Weights.{weightsPass};
@@ -50,7 +50,7 @@ pub fn first_refusal(
     plain: bool,
     passing: bool,
 ) -> Verdict
-    ensures { λ r. ⌜ ((o : Outcome Bool) → found ≡ refusal o → r ≡ refusal (inOrder fits sized long stale o plain passing nothing)) ⌝ }
+    ensures { λ r. ⌜ r ≡ earlier (refusal (inOrder fits sized long stale nothing true true nothing)) (earlier found (refusal (inOrder true true true false nothing plain passing nothing))) ⌝ }
 {
     let early = early_refusal(fits, sized, long, stale);
     if early.number != 0 {
@@ -161,7 +161,7 @@ pub fn last_point(n: usize) -> usize
     0
 }
 
-// ---- 51 to 56: the numbers that parameters and kinds bring in
+// ---- 56: the lone values that parameters and kinds bring in
 
 pub fn values(params: Params) -> [f64; 3]
     ensures { λ r. ⌜ r ≡ valuesOf params ⌝ }

@@ -4,7 +4,7 @@ use mathlib.Core.Path.{_≡_, refl, sym, ap, _∙_}
 use mathlib.Core.Bool.{Bool, true, false, cond}
 use mathlib.Core.Logic.{_≢_, _⊎_, inl, inr}
 use native.Mathlib.Omega.{arith}
-use borrow.Author.Tests.{ne-eqb}
+use borrow.Author.Tests.{eq-eqb, ne-eqb}
 use lib.Dec.{eqb}
 use Rattle.floats.specs.declared.Slice.{Slice}
 use Rattle.floats.specs.declared.Slice.the-variants.{State, Covariance, Noise, Points, Measurement, Lone}
@@ -111,8 +111,14 @@ module _ {A : Type 0} where
 
 -- ---- one after the other
 
+pub earlier-first : (a b : Verdict) → (a .number ≡ 0 → ⊥) → earlier a b ≡ a
+earlier-first a b h = rw (ne-eqb (a .number) 0 h)
+
+pub earlier-second : (a b : Verdict) → a .number ≡ 0 → earlier a b ≡ b
+earlier-second a b h = rw (eq-eqb (a .number) 0 h)
+
 pub earlier-refused : (r : Refusal) (b : Verdict) → earlier (verdict r) b ≡ verdict r
-earlier-refused r b = let e : eqb (number r) 0 ≡ false = ne-eqb (number r) 0 (λ (z : number r ≡ 0). omega (arith, number-above r)) in rw e
+earlier-refused r b = earlier-first (verdict r) b (λ (z : number r ≡ 0). omega (arith, number-above r))
 
 pub earlier-onward : {A B : Type 0} (o : Outcome A) (p : Outcome B) → refusal (onward o (λ (a : A). p)) ≡ earlier (refusal o) (refusal p)
 earlier-onward (refused r) p = sym (earlier-refused r (refusal p))

@@ -12,7 +12,7 @@ pub data Refusal : Type 0 where
   NUMBER : Slice → ℕ → Refusal
   PIVOT INNOV : ℕ → Refusal
 
--- 5 by the slice: state, covariance, noise, points, measurement, lone value
+-- a bad number by its slice: state, covariance, noise (Q, R), points, measurement, lone value
 abbrev pub sliceNumber : Slice → ℕ
 sliceNumber State = 51
 sliceNumber Covariance = 52

@@ -6,13 +6,19 @@ ghost use Rattle.floats.specs.Refusal.{sliceNumber, placeless, earlier, 
 ghost use Rattle.floats.specs.Search.{input, searched};
 ghost use Rattle.floats.specs.Numbers.{allFinite, aboveZero};
 
-// What lent numbers are.
+// What lent numbers are, in the order in which they are searched. The first bad one of a slice is told by its place there, from 0.
 pub enum Slice {
+    // 51: x
     State,
+    // 52: P
     Covariance,
+    // 53: Q or R
     Noise,
+    // 54: propagated or observed
     Points,
+    // 55: z
     Measurement,
+    // 56: alpha, beta and kappa at 0, 1 and 2; the half-turn of a measurement at its index; any other at 0
     Lone,
 }
 

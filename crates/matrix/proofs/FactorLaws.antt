@@ -1,5 +1,4 @@
 -- What stands in each place of a factor: the equations of document 01 that its entries satisfy, each read off the factor itself; and what a stop means. Assumes nothing.
-use Prim.{Unit}
 use Prim.Native.Nat.{ℕ, zero, suc, _+_, _-_, _*_, _<_, _≤_}
 use mathlib.Core.Path.{_≡_, refl, sym, _∙_, subst}
 use mathlib.Core.Bool.{Bool, true, false}
@@ -11,47 +10,26 @@ use lib.Seq.{getD-set-same, getD-set-other}
 use lib.Ieee.{Float, Format, nan, sub, div}
 use lib.Ieee.Scale.{finite}
 use Rattle.floats.specs.Refusal.{Refusal, RANGE, Outcome, refused, accepted, unless, onward}
-use Rattle.floats.specs.Numbers.{plusZero, zeros, aboveZero}
+use Rattle.floats.specs.Numbers.{zeros, aboveZero}
 use Rattle.root.specs.Definition.{rootOf}
 use Rattle.matrix.specs.Sums.{productAt}
 use Rattle.matrix.specs.Results.{worked}
 use Rattle.matrix.specs.Factor.{leftOf, rowsFrom, columnOf, columnsFrom, factorOf}
+use Rattle.matrix.specs.Factored.{Diag, Low, Part, Lower}
 use Rattle.matrix.proofs.Flat.{cell-in, row-before, split, same-row, same-column}
 use Rattle.matrix.proofs.Cells.{length-zeros, zeros-at, total-same}
 use Rattle.matrix.proofs.Results.{worked-then}
 use Rattle.matrix.proofs.FactorSteps.{all-one}
 
 module _ (f : Format) (r : ℕ → Refusal) (a : List Float) (n : ℕ) where
-  -- the diagonal entry of column j is right, by the entries before it
-  pub record Diag (l : List Float) (j : ℕ) : Type 0 where
-    pub above : aboveZero (leftOf f r a n j j l) ≡ true
-    pub root : getD l (j * n + j) nan ≡ rootOf f (leftOf f r a n j j l)
-
-  -- the entry of row i and column j, under the diagonal
-  pub record Low (l : List Float) (i j : ℕ) : Type 0 where
-    pub quotient : getD l (i * n + j) nan ≡ div f (leftOf f r a n i j l) (getD l (j * n + j) nan)
-    pub bounded : finite (getD l (i * n + j) nan) ≡ true
-
-  -- those entries on and under the diagonal that are made are right; above the diagonal and past n·n stands +0
-  pub record Part (Made : ℕ → ℕ → Type 0) (l : List Float) : Type 0 where
-    pub long : length l ≡ 64
-    pub diagonal : (j : ℕ) → j < n → Made j j → Diag l j
-    pub lower : (i j : ℕ) → j < i → i < n → Made i j → Low l i j
-    pub upper : (i j : ℕ) → i < j → j < n → getD l (i * n + j) nan ≡ plusZero
-    pub rest : (p : ℕ) → n * n ≤ p → p < 64 → getD l p nan ≡ plusZero
-
-  -- l is a factor of A: all are made
-  abbrev pub Lower : List Float → Type 0
-  Lower l = Part (λ (i j : ℕ). Unit {0}) l
-
   -- row s of column k is made once the work has come to row i of column j
   abbrev pub Was : ℕ → ℕ → ℕ → ℕ → Type 0
   Was j i s k = (k < j) ⊎ ((k ≡ j) × (s < i))
 
   -- why a work stopped, with the entries that were right so far
   pub data Stopped : Refusal → Type 0 where
-    at-pivot : (j : ℕ) (l : List Float) → j < n → Part (Was j j) l → aboveZero (leftOf f r a n j j l) ≡ false → Stopped (r j)
-    at-entry : (i j : ℕ) (l : List Float) → j < i → i < n → Part (Was j i) l
+    at-pivot : (j : ℕ) (l : List Float) → j < n → Part f r a n (Was j j) l → aboveZero (leftOf f r a n j j l) ≡ false → Stopped (r j)
+    at-entry : (i j : ℕ) (l : List Float) → j < i → i < n → Part f r a n (Was j i) l
         → finite (div f (leftOf f r a n i j l) (getD l (j * n + j) nan)) ≡ false → Stopped RANGE
 
   -- what an outcome means: P of what was made, or a reason to stop
@@ -92,13 +70,13 @@ module _ (f : Format) (r : ℕ → Refusal) (a : List Float) (n : ℕ) where
     was-le : (s k : ℕ) → Was j i s k → k ≤ j
     was-le s k w = ⊎-elim (λ q. omega arith) (λ q. omega arith) w
 
-    kept-diag : (k : ℕ) → k < n → Was j i k k → Diag l k → Diag l′ k
+    kept-diag : (k : ℕ) → k < n → Was j i k k → Diag f r a n l k → Diag f r a n l′ k
     kept-diag k h w d = record {
       above = rw (kept-left k k (was-le k k w)) (d .above);
       root = rw (kept-left k k (was-le k k w), kept-was k k h w) (d .root);
     }
 
-    kept-low : (s k : ℕ) → k < s → s < n → Was j i s k → Low l s k → Low l′ s k
+    kept-low : (s k : ℕ) → k < s → s < n → Was j i s k → Low f r a n l s k → Low f r a n l′ s k
     kept-low s k g h w d =
         let own : Was j i k k = ⊎-elim (λ q. inl q) (λ q. inr (q .0, omega arith)) w in
         record {
@@ -117,7 +95,7 @@ module _ (f : Format) (r : ℕ → Refusal) (a : List Float) (n : ℕ) where
     kept-rest p h = getD-set-other l (i * n + j) p e nan (λ q. omega (arith, row-before i n n hi))
 
     -- the entry made, all that were made before it stay right
-    set-part : Part (Was j i) l → (i ≡ j → Diag l′ j) → (j < i → Low l′ i j) → Part (Was j (i + 1)) l′
+    set-part : Part f r a n (Was j i) l → (i ≡ j → Diag f r a n l′ j) → (j < i → Low f r a n l′ i j) → Part f r a n (Was j (i + 1)) l′
     set-part p here under = record {
       long = length-set l (i * n + j) e ∙ p .long;
       diagonal = λ k g w.
@@ -143,15 +121,15 @@ module _ (f : Format) (r : ℕ → Refusal) (a : List Float) (n : ℕ) where
     }
 
   module _ (small : n ≤ 8) where
-    set-diag : (j : ℕ) → j < n → (l : List Float) (e : Float) → Part (Was j j) l
-        → aboveZero (leftOf f r a n j j l) ≡ true → e ≡ rootOf f (leftOf f r a n j j l) → Part (Was j (j + 1)) (set l (j * n + j) e)
+    set-diag : (j : ℕ) → j < n → (l : List Float) (e : Float) → Part f r a n (Was j j) l
+        → aboveZero (leftOf f r a n j j l) ≡ true → e ≡ rootOf f (leftOf f r a n j j l) → Part f r a n (Was j (j + 1)) (set l (j * n + j) e)
     set-diag j h l e p t q =
         let jj : j ≤ j = omega arith in
         let x = kept-left small j j h jj l e j j jj in
         set-part small j j h jj l e p (λ z. record { above = rw x t; root = rw (x, new small j j h jj l e (p .long)) q }) (λ z. absurd (omega arith))
 
-    set-low : (i j : ℕ) → j < i → i < n → (l : List Float) (e : Float) → Part (Was j i) l
-        → e ≡ div f (leftOf f r a n i j l) (getD l (j * n + j) nan) → finite e ≡ true → Part (Was j (i + 1)) (set l (i * n + j) e)
+    set-low : (i j : ℕ) → j < i → i < n → (l : List Float) (e : Float) → Part f r a n (Was j i) l
+        → e ≡ div f (leftOf f r a n i j l) (getD l (j * n + j) nan) → finite e ≡ true → Part f r a n (Was j (i + 1)) (set l (i * n + j) e)
     set-low i j b h l e p t q =
         let ji : j ≤ i = omega arith in
         let x = new small i j h ji l e (p .long) in
@@ -160,7 +138,7 @@ module _ (f : Format) (r : ℕ → Refusal) (a : List Float) (n : ℕ) where
         set-part small i j h ji l e p (λ g. absurd (omega arith)) (λ g. record { quotient = rw (x, y, z) t; bounded = rw x q })
 
     -- a column that is made to its end
-    shift : (j : ℕ) (l : List Float) → Part (Was j n) l → Part (Was (j + 1) (j + 1)) l
+    shift : (j : ℕ) (l : List Float) → Part f r a n (Was j n) l → Part f r a n (Was (j + 1) (j + 1)) l
     shift j l p = record {
       long = p .long;
       diagonal = λ k g w. p .diagonal k g (before k k g w (omega arith));
@@ -172,9 +150,9 @@ module _ (f : Format) (r : ℕ → Refusal) (a : List Float) (n : ℕ) where
         before : (s k : ℕ) → s < n → Was (j + 1) (j + 1) s k → k ≤ s → Was j n s k
         before s k h w g = ⊎-elim (λ o. inl o) (λ o. ⊎-elim (λ q. inr (omega arith, h)) (λ q. absurd (omega arith)) w) (split k j)
 
-    rows-mean : (j : ℕ) (d : Float) (m i : ℕ) (l : List Float) → i + m ≡ n → j < i → d ≡ getD l (j * n + j) nan → Part (Was j i) l → Means (Part (Was j n)) (worked (rowsFrom f r a n j d m i l))
+    rows-mean : (j : ℕ) (d : Float) (m i : ℕ) (l : List Float) → i + m ≡ n → j < i → d ≡ getD l (j * n + j) nan → Part f r a n (Was j i) l → Means (Part f r a n (Was j n)) (worked (rowsFrom f r a n j d m i l))
     unfolding rowsFrom worked
-    rows-mean j d zero i l s b q p = let x : i ≡ n = omega arith in subst (λ (k : ℕ). Part (Was j k) l) x p
+    rows-mean j d zero i l s b q p = let x : i ≡ n = omega arith in subst (λ (k : ℕ). Part f r a n (Was j k) l) x p
     rows-mean j d (suc m) i l s b q p =
         let e = div f (leftOf f r a n i j l) d in
         unless-means _ _ RANGE _
@@ -184,7 +162,7 @@ module _ (f : Format) (r : ℕ → Refusal) (a : List Float) (n : ℕ) where
         (q ∙ sym (kept-row small i j (omega arith) (omega arith) l e j j (omega arith) (λ g. omega arith)))
         (set-low i j b (omega arith) l e p (rw q) (sym (all-one e) ∙ t)))
 
-    column-mean : (j : ℕ) (l : List Float) → j < n → Part (Was j j) l → Means (Part (Was (j + 1) (j + 1))) (worked (columnOf f r a n j l))
+    column-mean : (j : ℕ) (l : List Float) → j < n → Part f r a n (Was j j) l → Means (Part f r a n (Was (j + 1) (j + 1))) (worked (columnOf f r a n j l))
     unfolding columnOf worked
     column-mean j l h p =
         let e = rootOf f (leftOf f r a n j j l) in
@@ -196,11 +174,11 @@ module _ (f : Format) (r : ℕ → Refusal) (a : List Float) (n : ℕ) where
         (sym (new small j j h (omega arith) l e (p .long)))
         (set-diag j h l e p t refl)))
       where
-        made-to-end : (k : ℕ) (o : Outcome (List Float)) → Means (Part (Was k n)) o → Means (Part (Was (k + 1) (k + 1))) o
+        made-to-end : (k : ℕ) (o : Outcome (List Float)) → Means (Part f r a n (Was k n)) o → Means (Part f r a n (Was (k + 1) (k + 1))) o
         made-to-end k (accepted z) q = shift k z q
         made-to-end k (refused s) q = q
 
-    columns-mean : (m j : ℕ) (l : List Float) → j + m ≡ n → Part (Was j j) l → Means Lower (worked (columnsFrom f r a n m j l))
+    columns-mean : (m j : ℕ) (l : List Float) → j + m ≡ n → Part f r a n (Was j j) l → Means (Lower f r a n) (worked (columnsFrom f r a n m j l))
     unfolding columnsFrom worked
     columns-mean zero j l s p = record {
       long = p .long;
@@ -211,9 +189,9 @@ module _ (f : Format) (r : ℕ → Refusal) (a : List Float) (n : ℕ) where
     }
     columns-mean (suc m) j l s p =
         rw (worked-then (columnOf f r a n j l) (λ (k : List Float). columnsFrom f r a n m (j + 1) k))
-        (onward-means (Part (Was (j + 1) (j + 1))) Lower (worked (columnOf f r a n j l)) _ (column-mean j l (omega arith) p) (λ k q. columns-mean m (j + 1) k (omega arith) q))
+        (onward-means (Part f r a n (Was (j + 1) (j + 1))) (Lower f r a n) (worked (columnOf f r a n j l)) _ (column-mean j l (omega arith) p) (λ k q. columns-mean m (j + 1) k (omega arith) q))
 
-    begun : Part (Was 0 0) (zeros 64)
+    begun : Part f r a n (Was 0 0) (zeros 64)
     begun = record {
       long = length-zeros 64;
       diagonal = λ k h w. ⊎-elim (λ q. absurd (omega arith)) (λ q. absurd (omega arith)) w;
@@ -222,13 +200,13 @@ module _ (f : Format) (r : ℕ → Refusal) (a : List Float) (n : ℕ) where
       rest = λ p g h. zeros-at 64 p h;
     }
 
-    factor-means : Means Lower (worked (factorOf f r a n))
+    factor-means : Means (Lower f r a n) (worked (factorOf f r a n))
     factor-means = columns-mean n 0 (zeros 64) (omega arith) begun
 
     -- A WORK THAT IS ACCEPTED HAS MADE A FACTOR
-    pub is-factor : (l : List Float) → worked (factorOf f r a n) ≡ accepted l → Lower l
-    is-factor l e = subst (Means Lower) e factor-means
+    pub is-factor : (l : List Float) → worked (factorOf f r a n) ≡ accepted l → Lower f r a n l
+    is-factor l e = subst (Means (Lower f r a n)) e factor-means
 
     -- A WORK THAT STOPPED HAS A REASON
     pub is-stopped : (q : Refusal) → worked (factorOf f r a n) ≡ refused q → Stopped q
-    is-stopped q e = subst (Means Lower) e factor-means
+    is-stopped q e = subst (Means (Lower f r a n)) e factor-means

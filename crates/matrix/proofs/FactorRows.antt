@@ -1,9 +1,9 @@
 -- The row that a refused factor tells is that of the first bad pivot: the columns before it are right, and it is the only such row. Assumes nothing.
 use Prim.Native.Nat.{ℕ, zero, suc, _+_, _*_, _<_, _≤_}
 use mathlib.Core.Path.{_≡_, refl, sym, ap, ap₂, _∙_, subst}
-use mathlib.Core.Bool.{Bool, true, false, true≢false}
+use mathlib.Core.Bool.{true≢false}
 use mathlib.Core.List.{List}
-use mathlib.Core.Logic.{_↔_, _⊎_, inl, inr, ⊎-elim}
+use mathlib.Core.Logic.{_↔_, inl, inr, ⊎-elim}
 use native.Mathlib.Omega.{arith}
 use lib.ListN.{getD}
 use lib.Ieee.{Float, Format, nan, sub, mul, div}
@@ -14,18 +14,12 @@ use Rattle.root.specs.Definition.{rootOf}
 use Rattle.matrix.specs.Sums.{productAt}
 use Rattle.matrix.specs.Results.{worked}
 use Rattle.matrix.specs.Factor.{leftOf, factorOf}
+use Rattle.matrix.specs.Factored.{Part, BadPivot}
 use Rattle.matrix.proofs.Flat.{split}
 use Rattle.matrix.proofs.Cells.{total-same}
-use Rattle.matrix.proofs.FactorLaws.{Diag, Low, Part, Lower, Was, Stopped, at-pivot, at-entry, is-factor, is-stopped}
+use Rattle.matrix.proofs.FactorLaws.{Was, Stopped, at-pivot, at-entry, is-factor, is-stopped}
 
 module _ (f : Format) (r : ℕ → Refusal) (a : List Float) (n : ℕ) where
-  -- the pivot of row j isn't finite or isn't above 0, worked out from entries of which those in the columns before j are right, their pivots above 0
-  pub record BadPivot (j : ℕ) : Type 0 where
-    pub entries : List Float
-    pub inside : j < n
-    pub right : Part f r a n (Was f r a n j j) entries
-    pub bad : aboveZero (leftOf f r a n j j entries) ≡ false
-
   -- ---- columns that are right are the same
 
   -- up to column c, on and under the diagonal
@@ -67,29 +61,29 @@ module _ (f : Format) (r : ℕ → Refusal) (a : List Float) (n : ℕ) where
 
   -- ---- so the work stops there
 
-  module _ (small : n ≤ 8) (j : ℕ) (b : BadPivot j) where
+  module _ (small : n ≤ 8) (j : ℕ) (b : BadPivot f r a n j) where
     -- entries that are right in the columns before c, and its own diagonal
     never : {M : ℕ → ℕ → Type 0} {l : List Float} → Part f r a n M l → M j j → ((k : ℕ) → k < j → (s : ℕ) → k ≤ s → s < n → M s k) → ⊥
     never p x w =
-        let e = same-to (b .right) p j (omega (arith, b .inside)) (λ k g s h i. (inl g, w k g s h i)) in
+        let e = same-to (b .right) p j (omega (arith, b .inside)) (λ k g s h i. (g, w k g s h i)) in
         true≢false (sym (p .diagonal j (b .inside) x .above) ∙ ap aboveZero (sym (left-same e j j (omega arith) (omega arith) (b .inside))) ∙ b .bad)
 
     -- up to column i, before j
     before : (i : ℕ) {M : ℕ → ℕ → Type 0} {l : List Float} → i < j → Part f r a n M l → ((k : ℕ) → k < i → (s : ℕ) → k ≤ s → s < n → M s k) → Same i (b .entries) l
-    before i g p w = same-to (b .right) p i (omega (arith, b .inside)) (λ k h s u v. (inl (omega arith), w k h s u v))
+    before i g p w = same-to (b .right) p i (omega (arith, b .inside)) (λ k h s u v. (omega arith, w k h s u v))
 
     stops : (q : Refusal) → Stopped f r a n q → q ≡ r j
     stops q (at-pivot i l h p t) =
         ⊎-elim
-        (λ g. let e = before i g p (λ k u s v w. inl u) in absurd (true≢false (sym (b .right .diagonal i h (inl g) .above) ∙ ap aboveZero (left-same e i i (omega arith) (omega arith) h) ∙ t)))
+        (λ g. let e = before i g p (λ k u s v w. inl u) in absurd (true≢false (sym (b .right .diagonal i h g .above) ∙ ap aboveZero (left-same e i i (omega arith) (omega arith) h) ∙ t)))
         (λ g. ⊎-elim (λ u. absurd (never p (inl u) (λ k v s w x. inl (omega arith)))) (λ u. let z : i ≡ j = omega arith in ap r z) (split j i))
         (split i j)
     stops q (at-entry i k l h g p t) =
         ⊎-elim
         (λ u.
         let e = before k u p (λ c v s w x. inl v) in
-        let o = diagonal-same (b .right) p k (omega arith) (inl u) (inr (refl, h)) e in
-        let low = b .right .lower i k h g (inl u) in
+        let o = diagonal-same (b .right) p k (omega arith) u (inr (refl, h)) e in
+        let low = b .right .lower i k h g u in
         absurd (true≢false (sym (low .bounded) ∙ ap finite (low .quotient ∙ ap₂ (div f) (left-same e i k (omega arith) (omega arith) g) o) ∙ t)))
         (λ u. absurd (never p (⊎-elim (λ v. inl v) (λ v. inr (omega arith, omega arith)) (split j k)) (λ c v s w x. inl (omega arith))))
         (split k j)
@@ -102,9 +96,13 @@ module _ (f : Format) (r : ℕ → Refusal) (a : List Float) (n : ℕ) where
         go (refused q) e = ap refused (stops q (is-stopped f r a n small q e))
 
   -- THE ROW TOLD IS THAT OF THE FIRST BAD PIVOT, where r tells rows apart and isn't 9
-  pub row-exactly : n ≤ 8 → (j : ℕ) → ((i : ℕ) → r i ≡ r j → i ≡ j) → (RANGE ≡ r j → ⊥) → (worked (factorOf f r a n) ≡ refused (r j)) ↔ BadPivot j
+  pub row-exactly : n ≤ 8 → (j : ℕ) → ((i : ℕ) → r i ≡ r j → i ≡ j) → (RANGE ≡ r j → ⊥) → (worked (factorOf f r a n) ≡ refused (r j)) ↔ BadPivot f r a n j
   row-exactly small j own apart = (λ e. why (r j) (is-stopped f r a n small (r j) e) refl, λ b. is-refused small j b)
     where
-      why : (q : Refusal) → Stopped f r a n q → q ≡ r j → BadPivot j
-      why q (at-pivot i l h p t) e = subst BadPivot (own i e) (record { entries = l; inside = h; right = p; bad = t })
+      -- the columns before i
+      before-it : {i : ℕ} {l : List Float} → Part f r a n (Was f r a n i i) l → Part f r a n (λ (s k : ℕ). k < i) l
+      before-it p = record { long = p .long; diagonal = λ k g w. p .diagonal k g (inl w); lower = λ s k g h w. p .lower s k g h (inl w); upper = p .upper; rest = p .rest }
+
+      why : (q : Refusal) → Stopped f r a n q → q ≡ r j → BadPivot f r a n j
+      why q (at-pivot i l h p t) e = subst (BadPivot f r a n) (own i e) (record { entries = l; inside = h; right = before-it p; bad = t })
       why q (at-entry i k l h g p t) e = absurd (apart e)

@@ -15,7 +15,7 @@ pub enum Pivots {
     OfS,
 }
 
-// A factor: 0 and its entries, or the number that it was refused by, with the pivot's row, and +0 throughout.
+// A factor: 0 and its entries, or the number that it was refused by, with its place (of a pivot the row), and +0 throughout.
 pub struct Factor {
     pub refusal: Verdict,
     pub l: [f64; 64],
@@ -49,10 +49,7 @@ pub fn cholesky_decompose_lower(a: &[f64; 64], n: usize, of: Pivots) -> Factor
     ensures { λ r. ⌜ r ≡ factored (worked (factorOf binary64 (refusedBy of) (now (a .entry)) n)) ⌝ }
 {
     let mut l = [0.0f64; 64];
-    let mut refusal = Verdict {
-        number: 0,
-        place: 0,
-    };
+    let mut refusal = floats::placeless(0);
     let mut j = 0usize;
     'columns: while j < n {
         let s = sums::row(j, n);
@@ -71,10 +68,7 @@ pub fn cholesky_decompose_lower(a: &[f64; 64], n: usize, of: Pivots) -> Factor
             let r = sums::row(i, n);
             let e = sums::less(a[r + j], &l, r, s, j) / d;
             if !floats::is_finite(e) {
-                refusal = Verdict {
-                    number: RANGE,
-                    place: 0,
-                };
+                refusal = floats::placeless(RANGE);
                 break 'columns;
             }
             l[r + j] = e;

@@ -1,5 +1,5 @@
 -- One step of a pair, as the code of a call takes it: the solo call on its side, or a change of the sheet on both. Assumes nothing.
-use mathlib.Core.Path.{_≡_, refl, sym, ap, ap₂, _∙_}
+use mathlib.Core.Path.{_≡_, refl, ap, ap₂, _∙_}
 use mathlib.Core.Bool.{Bool, true, false, _&&_, cond}
 use mathlib.Core.List.{List, []}
 use borrow.Author.Tests.{eqb-true}

@@ -1,4 +1,4 @@
-// New of a pair: from n, x and P of the first, x and P of the second, Q and the parameters. Each number of the table is looked for in all of these, in that order, before the next one; refused, both sides are empty.
+// New of a pair: from n, x and P of the first, x and P of the second, Q and the parameters. 1 and 2 are each looked for in all of these before the next; then the numbers are searched, x and P of the first, x and P of the second, Q, parameters; then 6. Refused, both sides are empty.
 ghost use mathlib.Core.Path.{_≡_};
 ghost use lib.Ieee.{binary64};
 ghost use Rattle.pairs.specs.NewPair.{newPairAnswer};

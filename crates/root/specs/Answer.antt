@@ -1,4 +1,4 @@
--- What `square_root` answers, for every f64: document 01's number and value for each case of the enum, and what document 01 asks of the answer. Definitions only.
+-- What `square_root` answers, for every f64: the documents' number, place and value for each case of the enum, and what document 01 asks of the answer. Definitions only.
 use mathlib.Core.Path.{_≡_}
 use mathlib.Core.Bool.{Bool, true, false}
 use Prim.Native.Nat.{zero, suc}

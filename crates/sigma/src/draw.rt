@@ -71,10 +71,7 @@ pub fn generate_sigma_points(n: usize, x: &[f64; 8], p: &[f64; 64], scale: f64) 
         return refuse(9, 0);
     }
     Drawn {
-        refusal: Verdict {
-            number: 0,
-            place: 0,
-        },
+        refusal: floats::placeless(0),
         points: q,
     }
 }

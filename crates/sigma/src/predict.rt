@@ -45,9 +45,6 @@ pub fn reconstruct_prediction(
     if !floats::all_finite(&p, nn) {
         return refuse(9, 0);
     }
-    let refusal = Verdict {
-        number: 0,
-        place: 0,
-    };
+    let refusal = floats::placeless(0);
     Moments { refusal, x, p }
 }

@@ -3,7 +3,6 @@ use borrow.Author.Needs.{needs}
 use borrow.Author.Tests.{not-true, not-false}
 use mathlib.Core.Path.{_≡_, sym, ap, _∙_}
 use mathlib.Core.Bool.{true}
-use lib.Ieee.{Float}
 use lib.Ieee.Scale.{finite}
 use Rattle.angles.specs.Kinds.{halfOf}
 use Rattle.angles.proofs.kind_refusal.Statement.{statement}

@@ -187,7 +187,7 @@ returns-10 : tie.Need-returns-10
 returns-10 c = refused-as moments (c .refuse10 .ensures) (fails (test10 (c .before .before)) (c .before .if10 .taken))
 
 returns-11 : tie.Need-returns-11
-returns-11 c = ap moments (sym (ends (passes (test10 (c .before)) (c .if10 .left) .comes)))
+returns-11 c = rw (c .placeless .ensures) (ap moments (sym (ends (passes (test10 (c .before .before)) (c .before .if10 .left) .comes))))
 
 -- ---- what the callees ask
 
@@ -269,4 +269,5 @@ apply-correction-spec =
     (λ c κs. search needs)
     (λ c κs. search needs)
     returns-10
+    (λ c κs. search needs)
     returns-11)

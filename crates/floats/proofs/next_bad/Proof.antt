@@ -1,5 +1,4 @@
 -- `floats::next_bad` meets its contract. Assumes nothing.
-use mathlib.Core.Path.{_∙_}
 use borrow.Author.Needs.{needs}
 use borrow.Author.Tests.{eq-eqb, ne-eqb}
 use Rattle.floats.proofs.next_bad.Statement.{statement}

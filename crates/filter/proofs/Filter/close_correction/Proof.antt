@@ -15,7 +15,7 @@ use Rattle.filter.specs.Calls.{Call, closing, close-correction, inputsMe
 use Rattle.filter.specs.declared.measurement.Intake.{Intake}
 use Rattle.filter.specs.Measurement.{Lending}
 use Rattle.filter.proofs.KindTests.{all-pass, halves-take}
-use Rattle.filter.proofs.Order.{tested}
+use Rattle.filter.proofs.Order.{tested-early}
 use Rattle.filter.proofs.Taken.{Told, turned-away, all-passed}
 use Rattle.filter.proofs.Measuring.{Lent, told-in-order, sizes-in, taken-in}
 use Rattle.filter.proofs.Closing.{correcting-is, closes-so}
@@ -39,7 +39,7 @@ asked c =
     let a = start c .args in record {
       told = _;
       is =
-          tested binary64 _ _ (told-in-order (lent c)) (c .before .before .before .before .is-correcting .ensures) refl (λ h. refl) refl
+          tested-early binary64 _ _ (told-in-order (lent c)) (c .before .before .before .before .is-correcting .ensures) refl (λ h. refl) refl
           (λ h. ap (λ (v : List Float). searched (inputsMeasured (a .self .sheet .n) (a .m) (now (a .z)) (now (a .r)) (now (a .observed)) v)) (ap (take (a .m)) (c .before .before .before .halves .ensures) ∙ halves-take (a .m) (a .kinds)))
           refl
           (λ h. c .before .before .kinds-pass .ensures ∙ all-pass binary64 (take (a .m) (a .kinds)));

@@ -24,7 +24,7 @@ use Rattle.filter.specs.Filters.{filter, isCorrecting, seen, withDrawn}
 use Rattle.filter.specs.Calls.{opening, opened, draws, plan}
 use Rattle.filter.specs.Steps.{answered}
 use Rattle.filter.proofs.Sizes.{and-true, within-both}
-use Rattle.filter.proofs.Order.{none, tested}
+use Rattle.filter.proofs.Order.{none, tested-early}
 use Rattle.filter.proofs.Lines.{states-le}
 use Rattle.filter.proofs.Opening.{toStage, set-opened, opening-asks, opening-in, opening-current, opening-drawn}
 use Rattle.filter.proofs.Filter.open.Statement.{statement}
@@ -42,7 +42,7 @@ asked c =
     let a = start c .args in record {
       told = _;
       is =
-          tested binary64 _ nothing (c .early-refusal .ensures) (c .before .before .before .is-shut .ensures) (c .before .before .is-sized .ensures ∙ sym (and-true _))
+          tested-early binary64 _ nothing (c .early-refusal .ensures) (c .before .before .before .is-shut .ensures) (c .before .before .is-sized .ensures ∙ sym (and-true _))
           (λ h. ap (λ (j : ℕ). leb j (length (now (a .out)))) (c .before .point-numbers .ensures ∙ within-both _ _ _ (states-le _ [] h) (states-le _ [] h)) ∙ sym (and-true _))
           refl (λ h. none) refl (λ h. refl)
           ∙ ap (firstRefusal binary64) (opening-asks (a .self) (a .stage) (now (a .out)));

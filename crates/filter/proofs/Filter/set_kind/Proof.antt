@@ -1,9 +1,9 @@
 -- `Filter::set_kind` meets its contract. Assumes nothing.
-use Prim.Native.Nat.{ℕ, _<_, _-_}
-use mathlib.Core.Bool.{Bool, true, not, _&&_}
+use Prim.Native.Nat.{_<_, _-_}
+use mathlib.Core.Bool.{Bool, true, _&&_}
 use borrow.Author.Needs.{needs}
 use native.Mathlib.Omega.{arith}
-use lib.Dec.{eqb, ltb}
+use lib.Dec.{ltb}
 use mathlib.Core.Path.{refl, sym, ap, _∙_}
 use mathlib.Core.List.{[], _∷_}
 use lib.Ieee.{Float, binary64}
@@ -27,7 +27,7 @@ asked c =
     let a = start c .args in record {
       told = _;
       is =
-          tested binary64 _ _ (c .first-refusal .ensures _ (c .before .before .first-bad .ensures ∙ ap (λ (x : Float). refusal (searched (input Lone (x ∷ [])))) (c .before .before .before .before .half-of .ensures)))
+          tested binary64 _ _ (c .first-refusal .ensures) (c .before .before .first-bad .ensures ∙ ap (λ (x : Float). refusal (searched (input Lone (x ∷ [])))) (c .before .before .before .before .half-of .ensures))
           (s .before .is-shut .ensures)
           (c .before .before .before .before .before .both .ensures ∙ ap (λ (b : Bool). b && ltb (a .i) (a .self .sheet .n)) (s .is-sized .ensures) ∙ state-in (a .i) (a .self .sheet .n))
           (λ h. refl) refl (λ h. refl) refl

@@ -1,8 +1,7 @@
 -- `Sheet::new` meets its contract. Assumes nothing.
 use Prim.Native.Nat.{ℕ, _*_, _≤_}
 use mathlib.Core.Path.{_≡_, refl, sym, ap, ap₂, _∙_}
-use mathlib.Core.Bool.{Bool, _&&_}
-use mathlib.Core.List.{List, [], _∷_, _++_}
+use mathlib.Core.List.{List, [], _++_}
 use borrow.Author.Needs.{needs}
 use native.Mathlib.Omega.{arith}
 use denote.Ref.{now}
@@ -53,7 +52,7 @@ asked c =
     let found = found-next in-noise Lone _ (c .before .before .next-bad .ensures) .is ∙ ap (λ (v : List Float). refusal (searched (input Noise (take (counts c .square .result) (now (a .q))) ++ input Lone (take 3 v)))) (d .before .values .ensures) in record {
       told = _;
       is =
-          tested binary64 _ _ (c .first-refusal .ensures _ found) refl (d .before .before .is-sized .ensures ∙ sym (and-true _))
+          tested binary64 _ _ (c .first-refusal .ensures) found refl (d .before .before .is-sized .ensures ∙ sym (and-true _))
           (λ h. ap (λ (j : ℕ). leb j (length (now (a .q)))) (squared c (states-le _ [] h)) ∙ sym (and-true _))
           refl
           (λ h. ap (λ (j : ℕ). searched (input Noise (take j (now (a .q))) ++ input Lone (valuesOf (a .params)))) (squared c (states-le _ [] h)))

@@ -54,7 +54,7 @@ told c =
     let a = start c .args in
     let s = sized (a .m) 1 4 in
     let b = counts c .before .before in
-    lent-tested (lending (start c)) _ (c .first-refusal .ensures _ (found c))
+    lent-tested (lending (start c)) _ (c .first-refusal .ensures) (found c)
     (b .both .ensures ∙ ap₂ (λ (x y : Bool). x && y) (b .before .before .is-sized .ensures) (b .before .in-range .ensures ∙ sym (and-true _)))
     (λ h. c .before .before .before .before .before .before .all-long .ensures ∙ ap₂ (λ (x y : ℕ). every long (lend (now (a .z)) (a .m) ++ (lend (now (a .r)) x ++ lend (now (a .observed)) y))) (squared c (measured-le _ _ h)) (counted c (states-le _ s h) (measured-le _ _ h)))
     (λ h. ap₂ (λ (x y : ℕ). searched (inputs (start c) x y)) (squared c (measured-le _ _ h)) (counted c (states-le _ s h) (measured-le _ _ h)))

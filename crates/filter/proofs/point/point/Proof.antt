@@ -6,7 +6,7 @@ use native.Mathlib.Omega.{arith}
 use denote.Ref.{now}
 use lib.Ieee.{binary64}
 use Rattle.floats.proofs.Refusals.{number-of}
-use Rattle.filter.specs.Point.{pointRefusal, pointPlace}
+use Rattle.filter.specs.Point.{pointRefusal, pointStart}
 use Rattle.filter.proofs.Points.{within, part, none}
 use Rattle.filter.proofs.point.point.Statement.{statement}
 use Rattle.filter.proofs.point.point.Tie as tie
@@ -24,11 +24,11 @@ part-result-end : tie.Need-part-result-end
 part-result-end c = within binary64 _ _ _ (taken c)
 
 returns : tie.Need-returns
-unfolding pointPlace
+unfolding pointStart
 returns c = (part binary64 _ _ _ (taken (c .before)), simp (eq-eqb _ _ (taken (c .before))))
 
 returns-2 : tie.Need-returns-2
-unfolding pointPlace
+unfolding pointStart
 returns-2 c = (sym (none binary64 _ _ _ (refused (c .before))), simp (ne-eqb _ _ (refused (c .before))))
 
 pub point-spec : {M : Type 1} → statement M

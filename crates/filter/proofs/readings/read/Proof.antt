@@ -14,7 +14,7 @@ use Rattle.floats.proofs.Fronts.{front-over}
 use Rattle.filter.specs.Asked.{Asks, firstRefusal}
 use Rattle.filter.specs.Calls.{lend, line}
 use Rattle.filter.proofs.Sizes.{and-true}
-use Rattle.filter.proofs.Order.{none, Gives, tested, passed, goes-on, refuses}
+use Rattle.filter.proofs.Order.{none, Gives, tested-early, passed, goes-on, refuses}
 use Rattle.filter.proofs.Lines.{sized-le, long-le}
 use Rattle.filter.proofs.readings.read.Statement.{statement}
 use Rattle.filter.proofs.readings.read.Tie as tie
@@ -23,7 +23,7 @@ abbrev asks : tie.Start → Asks
 asks s = line true (s .args .n) [] (lend (now (s .args .out)) (s .args .k)) (s .args .stale) [] []
 
 abbrev asked : (c : tie.After-early-refusal) → Gives binary64 (asks (c .before .before .before .before))
-asked c = record { told = _; is = tested binary64 _ nothing (c .early-refusal .ensures) refl (c .before .is-sized .ensures ∙ sym (and-true _)) (λ h. sym (and-true _)) refl (λ h. none) refl (λ h. refl) }
+asked c = record { told = _; is = tested-early binary64 _ nothing (c .early-refusal .ensures) refl (c .before .is-sized .ensures ∙ sym (and-true _)) (λ h. sym (and-true _)) refl (λ h. none) refl (λ h. refl) }
 
 -- what the buffer is to hold, by the outcome
 abbrev held : tie.Start → Outcome (List Float) → List Float

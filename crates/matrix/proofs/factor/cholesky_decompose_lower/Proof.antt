@@ -1,7 +1,7 @@
 -- `factor::cholesky_decompose_lower` meets its contract: at the head of each loop what is left of the work comes to the whole outcome (`FactorSteps.antt`), so far with no refusal.
 -- Assumes nothing.
 use Prim.Native.Nat.{_-_, _≤_}
-use mathlib.Core.Path.{_≡_, refl, sym, _∙_, ap}
+use mathlib.Core.Path.{_≡_, sym, _∙_, ap}
 use mathlib.Core.List.{List}
 use mathlib.Core.Logic.{_⊎_, inl, inr, ⊎-elim}
 use borrow.Author.Needs.{needs}
@@ -37,7 +37,7 @@ Ended w l q = ((q ≡ taken) × (w ≡ accepted l)) ⊎ ((r : Refusal) × (q ≡
 
 -- the four ways out of the columns: at the loop's test, at a pivot, at a root that is never missing, at an entry. The last two parts of each are what it leaves in l and in refusal
 ended : (c : tie.Left-columns Inv-rows μ-rows Inv-columns μ-columns)
-    → Ended (worked (factorOf binary64 (refusedBy (c .before .before .args .of)) (c .before .before .args .a .now) (c .before .before .args .n))) (c .columns-test .l) (c .columns-test .refusal)
+    → let a = c .before .before .before .args in Ended (worked (factorOf binary64 (refusedBy (a .of)) (a .a .now) (a .n))) (c .columns-test .l) (c .columns-test .refusal)
 ended c =
     let inv = c .before .columns .inv in
     ⊎-elim
@@ -46,12 +46,12 @@ ended c =
     (λ w. inr (_, w .9 ∙ w .7 .ensures, column-stops (inv .2) (w .0 .taken) (w .1 .ensures .0) (w .4 .ensures) (sym (w .5 .ensures) ∙ not-true _ (w .6 .taken))))
     (⊎-elim
     (λ w. absurd (above-never _ (w .7 .ensures) (sym (w .5 .ensures) ∙ not-false _ (w .6 .left)) (w .9 .given .1)))
-    (λ w. inr (RANGE, w .20, row-stops (w .11 .inv .2) (w .12 .taken) (w .13 .ensures .0) (w .1 .ensures .0) (w .16 .ensures) (sym (w .17 .ensures) ∙ not-true _ (w .18 .taken))))))
+    (λ w. inr (RANGE, w .21 ∙ w .19 .ensures, row-stops (w .11 .inv .2) (w .12 .taken) (w .13 .ensures .0) (w .1 .ensures .0) (w .16 .ensures) (sym (w .17 .ensures) ∙ not-true _ (w .18 .taken))))))
     (c .columns-test .came)
 
 columns-holds : tie.Need-columns-holds Inv-rows μ-rows Inv-columns μ-columns
 unfolding ofBits zeros
-columns-holds c = (omega arith, refl, columns-begin)
+columns-holds c = (omega arith, c .placeless .ensures, columns-begin)
 
 enum-told : tie.Need-enum-told Inv-rows μ-rows Inv-columns μ-columns
 enum-told c = c .match .keys2
@@ -99,6 +99,7 @@ cholesky-decompose-lower-spec =
     μ-rows
     Inv-columns
     μ-columns
+    (λ c κs. search needs)
     columns-holds
     (λ c κs. (omega arith, omega arith))
     (λ c. omega arith)
@@ -121,6 +122,7 @@ cholesky-decompose-lower-spec =
     (λ c. omega arith)
     (λ c. omega arith)
     (λ c κs. (omega arith, omega arith))
+    (λ c κs. tt)
     (λ c κs. tt)
     (λ c. omega arith)
     (λ c. omega arith)

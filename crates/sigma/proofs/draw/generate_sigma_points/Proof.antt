@@ -49,7 +49,7 @@ returns-3 : tie.Need-returns-3
 returns-3 c = refused-as drawn (c .refuse3 .ensures) (fails (points-tested (c .before .before)) (c .before .if2 .taken))
 
 returns-4 : tie.Need-returns-4
-returns-4 c = ap drawn (sym (ends (passes (points-tested (c .before)) (c .if2 .left) .comes)))
+returns-4 c = rw (c .placeless .ensures) (ap drawn (sym (ends (passes (points-tested (c .before .before)) (c .before .if2 .left) .comes))))
 
 mul-all-finite : tie.Need-mul-all-finite
 mul-all-finite c = let n = c .before .before .before .before .before .before .before .before .before .before .args .n in omega (arith, point-in (n + n) n (omega arith) (omega arith))
@@ -74,4 +74,5 @@ generate-sigma-points-spec =
     (λ c κs. search needs)
     (λ c κs. search needs)
     returns-3
+    (λ c κs. search needs)
     returns-4)

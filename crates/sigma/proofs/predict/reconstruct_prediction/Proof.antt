@@ -40,7 +40,7 @@ returns-2 : tie.Need-returns-2
 returns-2 c = refused-as moments (c .refuse2 .ensures) (fails (p-tested (c .before .before)) (c .before .if2 .taken))
 
 returns-3 : tie.Need-returns-3
-returns-3 c = ap moments (sym (ends (passes (p-tested (c .before)) (c .if2 .left) .comes)))
+returns-3 c = rw (c .placeless .ensures) (ap moments (sym (ends (passes (p-tested (c .before .before)) (c .before .if2 .left) .comes))))
 
 pub reconstruct-prediction-spec : {M : Type 1} → statement M
 reconstruct-prediction-spec =
@@ -60,4 +60,5 @@ reconstruct-prediction-spec =
     (λ c κs. search needs)
     (λ c κs. search needs)
     returns-2
+    (λ c κs. search needs)
     returns-3)
