@@ -34,11 +34,11 @@ module _ (f : Format) where
     rows-own : (j : ℕ) (d : Float) (m i : ℕ) (l : List Float) → StepsOwn (results (rowsFrom f r a n j d m i l))
     unfolding rowsFrom
     rows-own j d zero i l = end
-    rows-own j d (suc m) i l = and tt (rows-own j d m (i + 1) (set l (i * n + j) (div f (leftOf f r a n i j l) d)))
+    rows-own j d (suc m) i l = and tt (rows-own j d m (i + 1) (set l (i * n + j) (div f (leftOf f a n i j l) d)))
 
     column-own : (j : ℕ) (l : List Float) → StepsOwn (results (columnOf f r a n j l))
     unfolding columnOf
-    column-own j l = let d = rootOf f (leftOf f r a n j j l) in and (own j) (rows-own j d (n - (j + 1)) (j + 1) (set l (j * n + j) d))
+    column-own j l = let d = rootOf f (leftOf f a n j j l) in and (own j) (rows-own j d (n - (j + 1)) (j + 1) (set l (j * n + j) d))
 
     columns-own : (m j : ℕ) (l : List Float) → StepsOwn (results (columnsFrom f r a n m j l))
     unfolding columnsFrom

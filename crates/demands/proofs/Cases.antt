@@ -16,6 +16,7 @@ use Rattle.sigma.specs.Draw.{pointAt}
 use Rattle.filter.specs.Asked.{inRange, guarded}
 use Rattle.filter.specs.Steps.{step}
 use Rattle.filter.specs.New.{newOf}
+use Rattle.filter.specs.Point as Point
 use Rattle.pairs.specs.Pairs.{pairStep}
 use Rattle.pairs.specs.NewPair.{newPairOf}
 use Rattle.demands.specs.Runs.{tells, told}
@@ -24,5 +25,5 @@ use Rattle.demands.specs.Written.{_is_, _are_, failing}
 use Rattle.demands.specs.Cases.{cases}
 
 pub claim : failing cases ≡ []
-unfolding _is_ _are_ ofInt ofBits toBits add sub mul rem div neg lt le size odd allFinite aboveZero zeros front rootOf rooted rootUnits nearRoot floorRoot wrapOf halfTurn wrapStep brought totalOf placesOf builtOf rowOf rowsOf worked run rowsFrom columnOf columnsFrom unitAt lambdaOf scaleOf w0mOf w0cOf wiOf weightsPass pointAt inRange guarded searched searchedFrom step newOf tells told pairStep newPairOf pairTells pairTold
+unfolding _is_ _are_ ofInt ofBits toBits add sub mul rem div neg lt le size odd allFinite aboveZero zeros front rootOf rooted rootUnits nearRoot floorRoot wrapOf halfTurn wrapStep brought totalOf placesOf builtOf rowOf rowsOf worked run rowsFrom columnOf columnsFrom unitAt lambdaOf scaleOf w0mOf w0cOf wiOf weightsPass pointAt inRange guarded searched searchedFrom Point.pointAt Point.pointRefusal step newOf tells told pairStep newPairOf pairTells pairTold
 claim = refl

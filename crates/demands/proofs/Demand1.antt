@@ -1,10 +1,11 @@
 -- Demand 1: a call ends with a result or one of the refusals, each exactly when its row says, with its place; what is refused changes nothing; every number handed out is finite. Over every format. Assumes nothing.
-use Prim.Native.Nat.{ℕ, _*_, _<_, _≤_}
+use Prim.Native.Nat.{ℕ, _+_, _*_, _<_, _≤_}
 use mathlib.Core.Path.{_≡_, refl}
 use mathlib.Core.Bool.{true, false, cond}
 use mathlib.Core.List.{List, [], _∷_}
 use mathlib.Core.Logic.{_↔_, _≢_, _⊎_}
-use lib.ListN.{length, take, getD}
+use native.Mathlib.Omega.{arith}
+use lib.ListN.{length, take}
 use lib.Ieee.{Float, Format, add}
 use Rattle.floats.specs.declared.Slice.{Slice}
 use Rattle.floats.specs.declared.Slice.the-variants.{State, Covariance, Noise, Lone}
@@ -14,31 +15,29 @@ use Rattle.floats.specs.Numbers.{plusZero, zeros, allFinite}
 use Rattle.floats.specs.Fronts.{front, over}
 use Rattle.root.specs.Answer.{rootOutcome}
 use Rattle.angles.specs.Wrap.{wrapOf, wrapped}
-use Rattle.angles.specs.Kinds.{plain, halfOf, kindOf}
+use Rattle.angles.specs.Kinds.{kindOf}
 use Rattle.angles.specs.declared.Kind.{Kind}
-use Rattle.angles.specs.declared.Residual.the-variants.{Turn}
 use Rattle.matrix.specs.Results.{planned}
 use Rattle.matrix.specs.Factored.{BadPivot}
 use Rattle.sigma.specs.declared.Params.{Params}
 use Rattle.sigma.specs.Weights.{scaleOf, w0mOf}
 use Rattle.sigma.specs.Draw.{pointNumbers}
-use Rattle.correction.specs.Correct.{Head}
 use Rattle.filter.specs.declared.Filter.{Filter}
 use Rattle.filter.specs.Asked.{by-params}
-use Rattle.filter.specs.Filters.{seen}
-use Rattle.filter.specs.Calls.{Call, setting, closing, open-prediction, open-correction, close-prediction, close-correction, close-correction-flat, fits, halves, asks, plan, weightedFrom, flatFrom}
+use Rattle.filter.specs.Filters.{isShut, seen}
+use Rattle.filter.specs.Calls.{Call, writing, setting, closing, set-kind, open-prediction, open-correction, close-prediction, close-correction, close-correction-flat, fits, halves, asks, plan, weightedFrom, flatFrom}
 use Rattle.filter.specs.Steps.{step, paramsRead, staleRead}
 use Rattle.filter.specs.New.{emptySheet, emptyTrack, empty, Start, from, newAsks, startAsks, newSheet, newTrack, newAnswer}
 use Rattle.filter.specs.Point.{pointAsks, pointRefusal, pointOf}
-use Rattle.demands.specs.Rows.{Some, NotFinite, NotAbove, Below, OutOfRange, FirstIn, FirstBad, searches, IsTurn, IsFlat, Measurable, UnfitTurn, Fails, FirstFails, Cause, Applies, Due, ByStep, Neither}
+use Rattle.demands.specs.Rows.{Some, NotFinite, NotAbove, Below, OutOfRange, FirstIn, FirstBad, searches, InTurn, BadTurn, FirstTurn, IsTurn, IsFlat, Measurable, UnfitTurn, Fails, FirstFails, Cause, Applies, Due, Free, ByStep, Neither}
 use Rattle.demands.specs.Listed.{listedAtOpen, listedAtPrediction, listedAtHead, listedAtCorrection}
 use Rattle.demands.specs.Runs.{told}
 use Rattle.demands.specs.Sound.{Sound, Tidy, Reached, Yielded, handedOut, Each}
 use Rattle.demands.proofs.Exactly.{exactly, taken-exactly, new-exactly, new-taken, new-track-exactly, new-track-taken, new-sheet-exactly, new-sheet-taken, point-exactly, point-taken, wrap-exactly, wrap-taken, wrap-refused, root-exactly, root-taken, kind-exactly, kind-taken, one-of, ends-so, refused-unwritten, refused-values, new-refused, new-track-refused, new-sheet-refused, point-refused}
 use Rattle.demands.proofs.Places.{some-bad, one-bad, turn-at, told-by}
-use Rattle.demands.proofs.Pivots.{open-pivot, correction-pivot}
+use Rattle.demands.proofs.Pivots.{prediction-pivot, correction-opened-pivot, correction-closed-pivot, flat-correction-pivot}
 use Rattle.demands.proofs.Listed.{open-prediction-lists, open-correction-lists, close-prediction-lists, close-correction-lists, close-correction-flat-lists}
-use Rattle.demands.proofs.Table.{searches-so, steps-give, stage-exactly, states-first, kind-only, never-stale, never-param}
+use Rattle.demands.proofs.Table.{searches-so, in-turn, kind-checked, steps-give, stage-exactly, states-first, kind-only, never-stale, never-param}
 use Rattle.demands.proofs.Turned.{turned-away-exactly}
 use Rattle.demands.proofs.Sound.{sound, tidy, all-handed-finite}
 use Rattle.demands.proofs.Opening.{opening-prediction, opening-correction}
@@ -112,7 +111,18 @@ module _ (f : Format) where
   pub sheet-taken-when : (n : ℕ) (q : List Float) (params : Params) → (newSheet f n q params .refusal ≡ taken) ↔ ((d : Cause) → Applies f (newAsks n [] q params) [] d → ⊥)
   sheet-taken-when = new-sheet-taken f
 
-  -- of point k of a lent list,
+  -- of point k of a lent list, which asks for k up to 2n and for the whole list, and doesn't judge its numbers,
+  pub point-asks : (l : List Float) (n k : ℕ) → pointAsks f l n k ≡ record {
+    fits = true;
+    sizes = record { value = n; from = 1; to = 8 } ∷ record { value = k; from = 0; to = n + n } ∷ [];
+    lent = record { slice = l; needs = (n + n + 1) * n } ∷ [];
+    stale = false;
+    inputs = [];
+    plain = [];
+    params = [];
+  }
+  point-asks l n k = refl
+
   pub point-exactly-when : (l : List Float) (n k : ℕ) (r : Refusal) → (pointRefusal f l n k ≡ verdict r) ↔ Due f (pointAsks f l n k) [] r
   point-exactly-when = point-exactly f
 
@@ -138,13 +148,16 @@ module _ (f : Format) where
   pub root-taken-when : (x : Float) → (refusal (rootOutcome f x) ≡ taken) ↔ (NotFinite x ⊎ Below x → ⊥)
   root-taken-when = root-taken f
 
-  -- and of the check of a kind (the half-turn of a plain one is +0, which is finite).
+  -- and of the check of a kind: 56 at 0 exactly when it is a turn by a number that isn't finite, 6 exactly when by one that is and isn't above 0 or whose double isn't finite, and no other number. Setting a kind answers the same, once 3 and 1 are passed.
   pub kind-exactly-when : (k : Kind) (r : Refusal)
-      → (refusal (kindOf f k) ≡ verdict r) ↔ (((r ≡ badLone) × NotFinite (halfOf k)) ⊎ ((r ≡ PARAM) × (NotFinite (halfOf k) → ⊥) × UnfitTurn f (k .residual)))
+      → (refusal (kindOf f k) ≡ verdict r) ↔ (((r ≡ badLone) × BadTurn k) ⊎ ((r ≡ PARAM) × (BadTurn k → ⊥) × UnfitTurn f (k .residual)))
   kind-exactly-when = kind-exactly f
 
-  pub kind-taken-when : (k : Kind) → (refusal (kindOf f k) ≡ taken) ↔ ((NotFinite (halfOf k) → ⊥) × (UnfitTurn f (k .residual) → ⊥))
+  pub kind-taken-when : (k : Kind) → (refusal (kindOf f k) ≡ taken) ↔ ((BadTurn k → ⊥) × (UnfitTurn f (k .residual) → ⊥))
   kind-taken-when = kind-taken f
+
+  pub kind-set : (s : Filter) (i : ℕ) (k : Kind) → isShut (s .track .stage) ≡ true → (1 ≤ s .sheet .n) × (s .sheet .n ≤ 8) → i < s .sheet .n → step f s (writing (set-kind i k)) .reply .refusal ≡ refusal (kindOf f k)
+  kind-set = kind-checked f
 
   -- Each of these ends so too, with 0 at place 0 or with a refusal's number at its place, being `refusal` of an outcome.
   pub so-do-the-others : {A : Type 0} (o : Outcome A) → (refusal o ≡ taken) ⊎ ((r : Refusal) × (refusal o ≡ verdict r))
@@ -181,17 +194,32 @@ module _ (f : Format) where
   pub searched-by : (s : Filter) (c : Call) → asks s c .inputs ≡ searches (s .sheet .n) c
   searched-by = searches-so
 
-  -- A bad half-turn is told at the index of its own kind: kind i is the turn by it, and plain kinds keep their places.
-  pub half-turn-place : (ks : List Kind) (i : ℕ) → FirstIn (halves ks) i → (h : Float) × (getD ks i plain .residual ≡ Turn h) × NotFinite h
+  -- That is slice after slice in the order of their numbers, and so is New (of a pair it takes the second start after the first);
+  pub searched-in-turn : (s : Filter) (c : Call) → InTurn 50 (asks s c .inputs)
+  searched-in-turn s c = rw (searches-so s c) (in-turn (s .sheet .n) c)
+
+  pub new-searched-in-turn : (n : ℕ) (x p q : List Float) (params : Params) → InTurn 50 (newAsks n (from x p ∷ []) q params .inputs)
+  new-searched-in-turn n x p q params = (omega arith, (omega arith, (omega arith, (omega arith, tt))))
+
+  -- and the first bad half-turn is told at the index of its own kind, the first that is a turn by a number that isn't finite: a plain one keeps its place.
+  pub half-turn-place : (ks : List Kind) (i : ℕ) → FirstIn (halves ks) i ↔ FirstTurn ks i
   half-turn-place = turn-at
 
-  -- 7 tells the row of the first bad pivot of P: it isn't finite or isn't above 0, and the columns before it are right, their pivots good (`BadPivot`). Of what an open lists (below) it is the first to fail;
-  pub pivot-row : (n j : ℕ) (x p : List Float) (scale : Float) → n ≤ 8 → FirstFails (PIVOT j) (listedAtOpen f n x p scale) ↔ BadPivot f PIVOT p n j
-  pivot-row = open-pivot f
+  -- 7 tells the row of the first bad pivot: the columns before it are right, so their pivots are good, and it isn't finite or isn't above 0 (`BadPivot`). An open gives it exactly when nothing is refused before its steps (`Free`) and row j of P has that pivot; an open correction has to be stale, as it draws only then;
+  pub pivot-at-open-prediction : (s : Filter) (b : List Float) (j : ℕ) → let c = setting (open-prediction b) in (step f s c .reply .refusal ≡ verdict (PIVOT j)) ↔ (Free f s c × BadPivot f (s .track .p) (s .sheet .n) j)
+  pivot-at-open-prediction = prediction-pivot f
 
-  -- 8 tells that of S, once z mean, S, x mean and cross covariance are finite;
-  pub innovation-row : (h : Head) (j : ℕ) → h .m ≤ 8 → FirstFails (INNOV j) (listedAtCorrection f h) ↔ ((Some Fails (listedAtHead f h) → ⊥) × BadPivot f INNOV (h .s) (h .m) j)
-  innovation-row = correction-pivot f
+  pub pivot-at-open-correction : (s : Filter) (b : List Float) (j : ℕ) → let c = setting (open-correction b) in (step f s c .reply .refusal ≡ verdict (PIVOT j)) ↔ (Free f s c × ((s .track .stale ≡ true) × BadPivot f (s .track .p) (s .sheet .n) j))
+  pivot-at-open-correction = correction-opened-pivot f
+
+  -- 8 the same of S, by either close, once z mean, S, x mean and cross covariance are finite;
+  pub pivot-at-correction : (s : Filter) (m : ℕ) (z r : List Float) (kinds : List Kind) (observed : List Float) (j : ℕ) → let c = closing (close-correction m z r kinds observed) in let h = weightedFrom f (seen s) m z r kinds observed in
+      (step f s c .reply .refusal ≡ verdict (INNOV j)) ↔ (Free f s c × ((Some Fails (listedAtHead f h) → ⊥) × BadPivot f (h .s) m j))
+  pivot-at-correction = correction-closed-pivot f
+
+  pub pivot-at-flat-correction : (s : Filter) (m : ℕ) (z r observed : List Float) (j : ℕ) → let c = closing (close-correction-flat m z r observed) in let h = flatFrom f (seen s) m z r observed in
+      (step f s c .reply .refusal ≡ verdict (INNOV j)) ↔ (Free f s c × ((Some Fails (listedAtHead f h) → ⊥) × BadPivot f (h .s) m j))
+  pivot-at-flat-correction = flat-correction-pivot f
 
   -- and every other refusal tells place 0.
   pub no-other-place : (r : Refusal) → placeOf r ≢ 0 → (50 < number r) ⊎ ((number r ≡ 7) ⊎ (number r ≡ 8))

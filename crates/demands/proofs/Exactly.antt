@@ -18,7 +18,7 @@ use Rattle.root.specs.Answer.{rootOutcome}
 use Rattle.angles.specs.Wrap.{wrapOf, wrapStep, wrapped, halfTurn}
 use Rattle.angles.specs.Kinds.{isPlain, halfOf, passes, kindOf}
 use Rattle.angles.specs.declared.Kind.{Kind}
-use Rattle.matrix.specs.Results.{Result, good, First, now, later, Plan, run, planned}
+use Rattle.matrix.specs.Results.{Result, First, now, later, Plan, run, planned}
 use Rattle.matrix.proofs.Flat.{split}
 use Rattle.floats.proofs.Refusals.{number-above, number-of, verdict-same}
 use Rattle.matrix.proofs.Results.{plan-refused}
@@ -30,10 +30,10 @@ use Rattle.filter.specs.Calls.{Call, asks, Done, plan}
 use Rattle.filter.specs.Steps.{outcome, stepped, step, paramsOf, paramsRead, staleRead}
 use Rattle.filter.specs.New.{emptySheet, emptyTrack, empty, Start, from, newAsks, startAsks, newSheetOf, newSheet, newTrackOf, newTrack, newOf, newAnswer}
 use Rattle.filter.specs.Point.{pointAsks, pointAt, pointRefusal, pointOf}
-use Rattle.demands.specs.Rows.{Some, here, there, NotFinite, NotAbove, Below, OutOfRange, Shorter, IsTurn, UnfitTurn, Unfit, FirstFails, Cause, stage, size, short, stale, kind, param, met, gives, Applies, rank, Due}
+use Rattle.demands.specs.Rows.{Some, here, there, NotFinite, NotAbove, Below, OutOfRange, Shorter, IsTurn, BadTurn, UnfitTurn, Unfit, FirstFails, Cause, stage, size, short, stale, kind, param, met, gives, Applies, rank, Due}
 use Rattle.demands.specs.Rows as Row
 use Rattle.demands.proofs.Places.{search-words, one-bad, no-bad}
-use Rattle.demands.proofs.Rows.{Means, itself, turned, reworded, none, parted, some, ranged, lent-long, all-finite, is-turn, fitting, half-turn, turn, well, rooted-means}
+use Rattle.demands.proofs.Rows.{Means, itself, turned, fails-where, passes-where, reworded, none, parted, some, ranged, lent-long, all-finite, is-turn, fitting, half-turn, bad-turn, turn, well, rooted-means}
 
 -- ---- the results of the steps
 
@@ -43,16 +43,8 @@ first-words (now {v = v} h) = Row.now (well v .fails h)
 first-words (later {v = v} h w) = Row.later (λ b. well v .passes h b) (first-words w)
 
 pub first-tests : {r : Refusal} {vs : List Result} → FirstFails r vs → First r vs
-first-tests (Row.now {v = v} b) = now (by-fails (good v) refl)
-  where
-    by-fails : (t : Bool) → good v ≡ t → good v ≡ false
-    by-fails true h = absurd (well v .passes h b)
-    by-fails false h = h
-first-tests (Row.later {v = v} n w) = later (by-passes (good v) refl) (first-tests w)
-  where
-    by-passes : (t : Bool) → good v ≡ t → good v ≡ true
-    by-passes true h = h
-    by-passes false h = absurd (n (well v .fails h))
+first-tests (Row.now {v = v} b) = now (fails-where (well v) b)
+first-tests (Row.later {v = v} n w) = later (passes-where (well v) n) (first-tests w)
 
 -- one result is the first
 one-first : {q r : Refusal} {vs : List Result} → FirstFails q vs → FirstFails r vs → q ≡ r
@@ -224,7 +216,7 @@ stepped-told s (accepted d) = refl
 
 module _ (f : Format) where
   module _ (s : Filter) (c : Call) where
-    step-told : step f s c .reply .refusal ≡ refusal (outcome f (seen s) c)
+    pub step-told : step f s c .reply .refusal ≡ refusal (outcome f (seen s) c)
     unfolding step
     step-told = stepped-told s (outcome f (seen s) c)
 
@@ -330,13 +322,13 @@ module _ (f : Format) where
         go false m = (λ e. absurd (omega (arith, number-of e)), λ n. absurd (n (m .fails refl)))
 
   module _ (k : Kind) where
-    -- a kind is refused by 56 at 0 just where its half-turn isn't finite, by 6 just where it is and doesn't pass, and by nothing else
+    -- a kind is refused by 56 at 0 just where it is a turn by a number that isn't finite, by 6 just where it isn't that and doesn't pass, and by nothing else
     pub kind-exactly : (r : Refusal)
-        → (refusal (kindOf f k) ≡ verdict r) ↔ (((r ≡ badLone) × NotFinite (halfOf k)) ⊎ ((r ≡ PARAM) × (NotFinite (halfOf k) → ⊥) × UnfitTurn f (k .residual)))
-    kind-exactly r = two-tests k (finite (halfOf k)) (passes f (k .residual)) (itself (finite (halfOf k))) (turn f (k .residual)) r
+        → (refusal (kindOf f k) ≡ verdict r) ↔ (((r ≡ badLone) × BadTurn k) ⊎ ((r ≡ PARAM) × (BadTurn k → ⊥) × UnfitTurn f (k .residual)))
+    kind-exactly r = two-tests k (finite (halfOf k)) (passes f (k .residual)) (bad-turn k) (turn f (k .residual)) r
 
-    pub kind-taken : (refusal (kindOf f k) ≡ taken) ↔ ((NotFinite (halfOf k) → ⊥) × (UnfitTurn f (k .residual) → ⊥))
-    kind-taken = two-taken k (finite (halfOf k)) (passes f (k .residual)) (itself (finite (halfOf k))) (turn f (k .residual))
+    pub kind-taken : (refusal (kindOf f k) ≡ taken) ↔ ((BadTurn k → ⊥) × (UnfitTurn f (k .residual) → ⊥))
+    kind-taken = two-taken k (finite (halfOf k)) (passes f (k .residual)) (bad-turn k) (turn f (k .residual))
 
 -- ---- a result or one of the refusals; and what is refused changes nothing and hands out nothing
 

@@ -1,21 +1,33 @@
--- 7 and 8 by the listed results: the first that fails is a pivot just where this is the first bad pivot of the matrix, and what is listed before the factor has passed. Assumes nothing.
-use Prim.Native.Nat.{ℕ, _≤_}
-use mathlib.Core.Path.{_≡_, refl, ap}
+-- 7 and 8 tell the row of the first bad pivot: of the listed results the first that fails is a pivot just where this is the first bad one of its matrix, and what is listed before the factor has passed. Then the same by calls. Assumes nothing.
+use Prim.Native.Nat.{ℕ, _<_, _≤_}
+use mathlib.Core.Path.{_≡_, refl, ap, subst}
+use mathlib.Core.Bool.{Bool, true, false, cond}
 use mathlib.Core.List.{List, [], _∷_, _++_}
-use mathlib.Core.Logic.{_↔_, ⊎-elim}
+use mathlib.Core.Logic.{_↔_, inr, ⊎-elim}
 use native.Mathlib.Omega.{arith}
 use lib.Ieee.{Float, Format}
-use Rattle.floats.specs.Refusal.{Refusal, RANGE, PIVOT, INNOV, number, placeOf}
-use Rattle.matrix.specs.Results.{Result, refusalOf, results}
+use Rattle.floats.specs.Refusal.{Refusal, RANGE, PIVOT, INNOV, number, placeOf, verdict}
+use Rattle.floats.proofs.Refusals.{slice-above}
+use Rattle.angles.specs.declared.Kind.{Kind}
+use Rattle.matrix.specs.Results.{Result, refusalOf, results, planned}
 use Rattle.matrix.specs.Factor.{factorOf}
 use Rattle.matrix.specs.Factored.{BadPivot}
 use Rattle.matrix.proofs.Results.{work-refused}
 use Rattle.matrix.proofs.FactorRows.{row-exactly}
+use Rattle.matrix.proofs.Flat.{split}
 use Rattle.correction.specs.Correct.{Head}
-use Rattle.demands.specs.Rows.{Some, here, there, Fails, FirstFails, now, later}
+use Rattle.filter.specs.declared.Filter.{Filter}
+use Rattle.filter.specs.Asked.{Size}
+use Rattle.filter.specs.Filters.{seen}
+use Rattle.filter.specs.Calls.{CloseCall, Call, setting, closing, open-prediction, open-correction, close-correction, close-correction-flat, asks, plan, weightedFrom, flatFrom}
+use Rattle.filter.specs.Steps.{step}
+use Rattle.demands.specs.Rows.{Some, here, there, Fails, FirstFails, now, later, Cause, stage, size, short, stale, kind, param, met, gives, Applies, rank, Free}
+use Rattle.demands.specs.Rows as Row
 use Rattle.demands.specs.Listed.{listedAtPoints, listedAtOpen, listedAtHead, listedAtGain, listedAtCorrection}
-use Rattle.demands.proofs.Rows.{none, parted}
-use Rattle.demands.proofs.Exactly.{first-words, first-tests}
+use Rattle.demands.proofs.Rows.{two-ways, none, parted}
+use Rattle.demands.proofs.Exactly.{first-words, first-tests, no-first, exactly}
+use Rattle.demands.proofs.Listed.{open-prediction-lists, open-correction-lists, close-correction-lists, close-correction-flat-lists}
+use Rattle.demands.proofs.Table.{regular}
 
 -- none of these is refused by r
 abbrev Others : Refusal → List Result → Type 0
@@ -54,22 +66,80 @@ before r vs ws o = (cut r vs o, λ w. keep vs (w .0) (w .1))
 
 module _ (f : Format) where
   -- the factor's own results
-  by-factor : (r : ℕ → Refusal) (a : List Float) (n j : ℕ) → n ≤ 8 → ((i : ℕ) → r i ≡ r j → i ≡ j) → (RANGE ≡ r j → ⊥) → FirstFails (r j) (results (factorOf f r a n)) ↔ BadPivot f r a n j
+  by-factor : (r : ℕ → Refusal) (a : List Float) (n j : ℕ) → n ≤ 8 → ((i : ℕ) → r i ≡ r j → i ≡ j) → (RANGE ≡ r j → ⊥) → FirstFails (r j) (results (factorOf f r a n)) ↔ BadPivot f a n j
   by-factor r a n j small own apart =
       let k = work-refused (factorOf f r a n) (r j) in
       let e = row-exactly f r a n small j own apart in
       (λ w. e .0 (k .1 (first-tests w)), λ b. first-words (k .0 (e .1 b)))
 
-  pub open-pivot : (n j : ℕ) (x p : List Float) (scale : Float) → n ≤ 8 → FirstFails (PIVOT j) (listedAtOpen f n x p scale) ↔ BadPivot f PIVOT p n j
+  open-pivot : (n j : ℕ) (x p : List Float) (scale : Float) → n ≤ 8 → FirstFails (PIVOT j) (listedAtOpen f n x p scale) ↔ BadPivot f p n j
   open-pivot n j x p scale small =
       let k = behind (PIVOT j) (results (factorOf f PIVOT p n)) (listedAtPoints f n x p scale) (λ e. omega (arith, ap number e), (λ e. omega (arith, ap number e), tt)) in
       let w = by-factor PIVOT p n j small (λ i e. ap placeOf e) (λ e. omega (arith, ap number e)) in
       (λ v. w .0 (k .0 v), λ b. k .1 (w .1 b))
 
-  pub correction-pivot : (h : Head) (j : ℕ) → h .m ≤ 8 → FirstFails (INNOV j) (listedAtCorrection f h) ↔ ((Some Fails (listedAtHead f h) → ⊥) × BadPivot f INNOV (h .s) (h .m) j)
+  correction-pivot : (h : Head) (j : ℕ) → h .m ≤ 8 → FirstFails (INNOV j) (listedAtCorrection f h) ↔ ((Some Fails (listedAtHead f h) → ⊥) × BadPivot f (h .s) (h .m) j)
   correction-pivot h j small =
       let ranges : RANGE ≡ INNOV j → ⊥ = λ e. omega (arith, ap number e) in
       let a = before (INNOV j) (listedAtHead f h) (results (factorOf f INNOV (h .s) (h .m)) ++ listedAtGain f h) (ranges, (ranges, (ranges, (ranges, tt)))) in
       let k = behind (INNOV j) (results (factorOf f INNOV (h .s) (h .m))) (listedAtGain f h) (ranges, (ranges, (ranges, (ranges, (ranges, tt))))) in
       let w = by-factor INNOV (h .s) (h .m) j small (λ i e. ap placeOf e) ranges in
       (λ v. let u = a .0 v in (u .0, w .0 (k .0 (u .1))), λ b. a .1 (b .0, k .1 (w .1 (b .1))))
+
+-- ---- by calls
+
+-- a row that gives 7 or 8 is one that the steps meet
+of-steps : (r : Refusal) → 6 < number r → number r < 9 → (c : Cause) → gives c ≡ r → c ≡ met r
+of-steps r h k stage e = absurd (omega (arith, ap number e))
+of-steps r h k size e = absurd (omega (arith, ap number e))
+of-steps r h k short e = absurd (omega (arith, ap number e))
+of-steps r h k stale e = absurd (omega (arith, ap number e))
+of-steps r h k (Row.number s i) e = absurd (omega (arith, ap number e, slice-above s))
+of-steps r h k kind e = absurd (omega (arith, ap number e))
+of-steps r h k param e = absurd (omega (arith, ap number e))
+of-steps r h k (met q) e = ap met e
+
+module _ (f : Format) (s : Filter) where
+  -- 7 and 8 are given just where nothing is refused before the steps and the first result that fails gives them, whatever B says of that
+  met-exactly : (c : Call) (r : Refusal) → 6 < number r → number r < 9 → {B : Type 0} → (Free f s c → FirstFails r (planned (plan f (seen s) c)) ↔ B) → (step f s c .reply .refusal ≡ verdict r) ↔ (Free f s c × B)
+  met-exactly c r h k {B} so = (to, λ w. exactly f s c r .1 (record { cause = met r; gives-it = refl; applies = so (w .0) .1 (w .1); no-earlier = w .0 }))
+    where
+      to : step f s c .reply .refusal ≡ verdict r → Free f s c × B
+      to e =
+          let d = exactly f s c r .0 e in
+          let m = of-steps r h k (d .cause) (d .gives-it) in
+          let free : Free f s c = λ b l x. d .no-earlier b (omega (arith, ap rank m)) x in
+          (free, so free .0 (subst (Applies f (asks (seen s) c) (planned (plan f (seen s) c))) m (d .applies)))
+
+  states-small : (c : Call) → Free f s c → s .sheet .n ≤ 8
+  states-small c u = ⊎-elim (λ h. absurd (u size (omega arith) (rw (regular f (seen s) c .states) (here (inr h))))) (λ h. h) (split 8 (s .sheet .n))
+
+  pub prediction-pivot : (b : List Float) (j : ℕ) → let c = setting (open-prediction b) in (step f s c .reply .refusal ≡ verdict (PIVOT j)) ↔ (Free f s c × BadPivot f (s .track .p) (s .sheet .n) j)
+  prediction-pivot b j =
+      let c = setting (open-prediction b) in
+      met-exactly c (PIVOT j) (omega arith) (omega arith) (λ u. rw (open-prediction-lists f (seen s) b) (open-pivot f (s .sheet .n) j (s .track .x) (s .track .p) _ (states-small c u)))
+
+  pub correction-opened-pivot : (b : List Float) (j : ℕ) → let c = setting (open-correction b) in (step f s c .reply .refusal ≡ verdict (PIVOT j)) ↔ (Free f s c × ((s .track .stale ≡ true) × BadPivot f (s .track .p) (s .sheet .n) j))
+  correction-opened-pivot b j =
+      let c = setting (open-correction b) in
+      met-exactly c (PIVOT j) (omega arith) (omega arith) (λ u. rw (open-correction-lists f (seen s) b) (afresh (s .track .stale) (open-pivot f (s .sheet .n) j (s .track .x) (s .track .p) _ (states-small c u))))
+    where
+      afresh : (t : Bool) {r : Refusal} {vs : List Result} {B : Type 0} → FirstFails r vs ↔ B → FirstFails r (cond t vs []) ↔ ((t ≡ true) × B)
+      afresh true e = (λ w. (refl, e .0 w), λ w. e .1 (w .1))
+      afresh false {r} e = (λ w. absurd (no-first r w), λ w. absurd (two-ways (w .0) refl))
+
+  -- m, the second size of a close
+  measured-small : (m : ℕ) (c : CloseCall) {l : List Size} → asks (seen s) (closing c) .sizes ≡ record { value = s .sheet .n; from = 1; to = 8 } ∷ record { value = m; from = 1; to = 4 } ∷ l → Free f s (closing c) → m ≤ 8
+  measured-small m c e u = ⊎-elim (λ h. absurd (u size (omega arith) (rw e (there (here (inr h)))))) (λ h. omega arith) (split 4 m)
+
+  pub correction-closed-pivot : (m : ℕ) (z r : List Float) (kinds : List Kind) (observed : List Float) (j : ℕ) → let c = closing (close-correction m z r kinds observed) in let h = weightedFrom f (seen s) m z r kinds observed in
+      (step f s c .reply .refusal ≡ verdict (INNOV j)) ↔ (Free f s c × ((Some Fails (listedAtHead f h) → ⊥) × BadPivot f (h .s) m j))
+  correction-closed-pivot m z r kinds observed j =
+      met-exactly (closing (close-correction m z r kinds observed)) (INNOV j) (omega arith) (omega arith)
+      (λ u. rw (close-correction-lists f (seen s) m z r kinds observed) (correction-pivot f (weightedFrom f (seen s) m z r kinds observed) j (measured-small m (close-correction m z r kinds observed) refl u)))
+
+  pub flat-correction-pivot : (m : ℕ) (z r observed : List Float) (j : ℕ) → let c = closing (close-correction-flat m z r observed) in let h = flatFrom f (seen s) m z r observed in
+      (step f s c .reply .refusal ≡ verdict (INNOV j)) ↔ (Free f s c × ((Some Fails (listedAtHead f h) → ⊥) × BadPivot f (h .s) m j))
+  flat-correction-pivot m z r observed j =
+      met-exactly (closing (close-correction-flat m z r observed)) (INNOV j) (omega arith) (omega arith)
+      (λ u. rw (close-correction-flat-lists f (seen s) m z r observed) (correction-pivot f (flatFrom f (seen s) m z r observed) j (measured-small m (close-correction-flat m z r observed) refl u)))

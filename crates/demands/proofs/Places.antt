@@ -14,13 +14,11 @@ use Rattle.floats.specs.Numbers.{allFinite}
 use Rattle.floats.specs.Search.{Input, searchedFrom, searched}
 use Rattle.floats.proofs.Refusals.{slice-above, refused-never}
 use Rattle.floats.proofs.Search.{none-bad, all-good}
-use Rattle.angles.specs.Kinds.{plain, halfOf}
+use Rattle.angles.specs.Kinds.{plain}
 use Rattle.angles.specs.declared.Kind.{Kind}
-use Rattle.angles.specs.declared.Residual.{Residual}
-use Rattle.angles.specs.declared.Residual.the-variants.{Plain, Turn}
 use Rattle.filter.specs.Calls.{halves}
-use Rattle.demands.specs.Rows.{Some, here, there, NotFinite, FirstIn, FirstBad, found, further}
-use Rattle.demands.proofs.Rows.{two-ways, all-finite}
+use Rattle.demands.specs.Rows.{Some, here, there, NotFinite, FirstIn, FirstBad, found, further, BadTurn, FirstTurn}
+use Rattle.demands.proofs.Rows.{two-ways, itself, fails-where, passes-where, all-finite, bad-turn}
 use Rattle.demands.proofs.Passed.{Pass, finiteIn, searched-finite}
 
 -- ---- one slice
@@ -51,12 +49,8 @@ words-slice s i [] p w = absurd (omega (arith, w .inside))
 words-slice s i (x ∷ v) zero w = let z : i + 0 ≡ i = omega arith in rw (w .bad, z)
 words-slice s i (x ∷ v) (suc p) w =
     let z : i + 1 + p ≡ i + suc p = omega arith in
-    rw (passes (finite x) (λ b. w .before 0 (omega arith) b))
+    rw (passes-where (itself (finite x)) (λ b. w .before 0 (omega arith) b))
     (words-slice s (i + 1) v p (record { inside = omega (arith, w .inside); bad = w .bad; before = λ q h b. w .before (suc q) (omega arith) b }) ∙ ap (λ (k : ℕ). refused (NUMBER s k)) z)
-  where
-    passes : (b : Bool) → (b ≡ false → ⊥) → b ≡ true
-    passes true n = refl
-    passes false n = absurd (n refl)
 
 -- ---- slice after slice
 
@@ -93,14 +87,7 @@ whence (further n w) = there (whence w)
 pub words-search : {s : Slice} {i : ℕ} (l : List Input) → FirstBad s i l → searched l ≡ refused (NUMBER s i)
 unfolding searched
 words-search {i = i} (x ∷ l) (found w) = let z : 0 + i ≡ i = omega arith in rw (words-slice (x .slice) 0 (x .numbers) i w, z)
-words-search (x ∷ l) (further n w) = rw (none-bad (x .slice) 0 (x .numbers) (good (x .numbers) n)) (words-search l w)
-  where
-    good : (v : List Float) → (Some NotFinite v → ⊥) → allFinite v ≡ true
-    good v n = go (allFinite v) refl
-      where
-        go : (b : Bool) → allFinite v ≡ b → b ≡ true
-        go true e = refl
-        go false e = absurd (n (all-finite v .fails e))
+words-search (x ∷ l) (further n w) = rw (none-bad (x .slice) 0 (x .numbers) (passes-where (all-finite (x .numbers)) n)) (words-search l w)
 
 -- there is one just where a number isn't finite
 pub some-bad : (l : List Input) → Some (λ (x : Input). Some NotFinite (x .numbers)) l ↔ ((s : Slice) × (i : ℕ) × FirstBad s i l)
@@ -132,15 +119,25 @@ none-finite l n = go (searched l) refl
 
 -- ---- half-turns
 
--- the kind at the place of a bad half-turn is a turn, by that number
-pub turn-at : (ks : List Kind) (i : ℕ) → FirstIn (halves ks) i → (h : Float) × (getD ks i plain .residual ≡ Turn h) × NotFinite h
-turn-at [] i w = absurd (omega (arith, w .inside))
-turn-at (k ∷ ks) zero w = by-residual (k .residual) (w .bad)
-  where
-    by-residual : (r : Residual) → NotFinite (halfOf (record { residual = r })) → (h : Float) × (r ≡ Turn h) × NotFinite h
-    by-residual Plain b = absurd (two-ways refl b)
-    by-residual (Turn h) b = (h, refl, b)
-turn-at (k ∷ ks) (suc i) w = turn-at ks i (record { inside = omega (arith, w .inside); bad = w .bad; before = λ j h b. w .before (suc j) (omega arith) b })
+later-turn : (k : Kind) (ks : List Kind) (i : ℕ) → (BadTurn k → ⊥) → ((j : ℕ) → j < i → BadTurn (getD ks j plain) → ⊥) → (j : ℕ) → j < suc i → BadTurn (getD (k ∷ ks) j plain) → ⊥
+later-turn k ks i n m zero h b = n b
+later-turn k ks i n m (suc j) h b = m j (omega arith) b
+
+half-turns : (ks : List Kind) (i : ℕ) → FirstIn (halves ks) i → FirstTurn ks i
+half-turns [] i w = absurd (omega (arith, w .inside))
+half-turns (k ∷ ks) zero w = (bad-turn k .fails (w .bad), λ j h. absurd (omega arith))
+half-turns (k ∷ ks) (suc i) w =
+    let v = half-turns ks i (record { inside = omega (arith, w .inside); bad = w .bad; before = λ j h b. w .before (suc j) (omega arith) b }) in
+    (v .0, later-turn k ks i (λ b. w .before 0 (omega arith) (fails-where (bad-turn k) b)) (v .1))
+
+turns-half : (ks : List Kind) (i : ℕ) → FirstTurn ks i → FirstIn (halves ks) i
+turns-half [] i w = absurd (bad-turn plain .passes refl (w .0))
+turns-half (k ∷ ks) zero w = first-zero (fails-where (bad-turn k) (w .0))
+turns-half (k ∷ ks) (suc i) w = first-next (passes-where (bad-turn k) (λ b. w .1 0 (omega arith) b)) (turns-half ks i (w .0, λ j h b. w .1 (suc j) (omega arith) b))
+
+-- THE FIRST BAD HALF-TURN is at the index of the first kind that is a turn by a number that isn't finite
+pub turn-at : (ks : List Kind) (i : ℕ) → FirstIn (halves ks) i ↔ FirstTurn ks i
+turn-at ks i = (half-turns ks i, turns-half ks i)
 
 -- ---- the places that are told
 

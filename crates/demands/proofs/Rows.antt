@@ -15,14 +15,14 @@ use lib.Ieee.Fits.{up-pos}
 use Rattle.floats.specs.Numbers.{plusZero, allFinite, aboveZero}
 use Rattle.root.specs.Definition.{rooted}
 use Rattle.angles.specs.Wrap.{halfTurn}
-use Rattle.angles.specs.Kinds.{noTurn, isPlain, passes}
+use Rattle.angles.specs.Kinds.{noTurn, isPlain, half, halfOf, passes}
 use Rattle.angles.specs.declared.Kind.{Kind}
 use Rattle.angles.specs.declared.Residual.{Residual}
 use Rattle.angles.specs.declared.Residual.the-variants.{Plain, Turn}
 use Rattle.matrix.specs.Results.{Result, numbers, pivot, rooting, good}
 use Rattle.sigma.specs.Weights.{scaleOf, w0mOf, w0cOf, wiOf, weightsPass}
 use Rattle.filter.specs.Asked.{Size, Lent, Param, by-params, by-kind, inRange, within, long, fit, every}
-use Rattle.demands.specs.Rows.{Some, here, there, NotFinite, NotAbove, Below, OutOfRange, Shorter, IsTurn, UnfitTurn, Unfit, Fails}
+use Rattle.demands.specs.Rows.{Some, here, there, NotFinite, NotAbove, Below, OutOfRange, Shorter, IsTurn, BadTurn, UnfitTurn, Unfit, Fails}
 
 pub two-ways : {b : Bool} → b ≡ true → b ≡ false → ⊥
 two-ways {b} h k = let z : _≡_ {A = ℕ} 0 1 = cc in omega arith
@@ -48,6 +48,16 @@ always n = record { fails = λ h. absurd (two-ways refl h); passes = λ h a. n a
 either : {a b : Bool} {A B : Type 0} → Means a A → Means b B → Means (a && b) (A ⊎ B)
 either {a = true} m n = record { fails = λ h. inr (n .fails h); passes = λ h w. ⊎-elim (λ x. m .passes refl x) (λ y. n .passes h y) w }
 either {a = false} m n = record { fails = λ h. inl (m .fails refl); passes = λ h w. two-ways h refl }
+
+-- where Bad holds the test fails
+pub fails-where : {t : Bool} {A : Type 0} → Means t A → A → t ≡ false
+fails-where {t = true} m a = absurd (m .passes refl a)
+fails-where {t = false} m a = refl
+
+-- where it doesn't, the test passes
+pub passes-where : {t : Bool} {A : Type 0} → Means t A → (A → ⊥) → t ≡ true
+passes-where {t = true} m n = refl
+passes-where {t = false} m n = absurd (n (m .fails refl))
 
 -- the same, said in other words
 pub reworded : {t : Bool} {A B : Type 0} → (A → B) → (B → A) → Means t A → Means t B
@@ -99,6 +109,13 @@ is-above x = either (itself (finite x)) (itself (lt plusZero x))
 pub half-turn : (f : Format) (h : Float) → Means (halfTurn f h) (NotAbove h ⊎ NotFinite (add f h h))
 unfolding halfTurn
 half-turn f h = either (itself (lt plusZero h)) (itself (finite (add f h h)))
+
+pub bad-turn : (k : Kind) → Means (finite (halfOf k)) (BadTurn k)
+bad-turn k = go (k .residual)
+  where
+    go : (r : Residual) → Means (finite (half r)) ((h : Float) × (r ≡ Turn h) × NotFinite h)
+    go Plain = always (λ w. two-ways refl (ap noTurn (w .1)))
+    go (Turn h) = reworded (λ b. (h, refl, b)) (λ w. let e : half (Turn h) ≡ half (Turn (w .0)) = ap half (w .1) in rw e (w .2)) (itself (finite h))
 
 pub turn : (f : Format) (r : Residual) → Means (passes f r) (UnfitTurn f r)
 turn f Plain = always (λ n. n)

@@ -1,29 +1,33 @@
 -- What the lines of the table of calls have in common. A later call costs its line here. Assumes nothing.
-use Prim.Native.Nat.{ℕ, _<_}
+use Prim.Native.Nat.{ℕ, _-_, _<_, _≤_}
 use mathlib.Core.Path.{_≡_, refl, sym, _∙_, subst}
-use mathlib.Core.Bool.{Bool, true, false, cond}
+use mathlib.Core.Bool.{Bool, true, false, _&&_, cond}
 use mathlib.Core.List.{List, [], _∷_}
-use mathlib.Core.Logic.{_↔_, _≢_}
+use mathlib.Core.Logic.{_↔_, _≢_, ⊎-elim}
 use native.Mathlib.Omega.{arith}
 use lib.Ieee.{Format}
-use Rattle.floats.specs.Refusal.{Refusal, SIZE, SHORT, STAGE, STALE, NUMBER, PARAM, PIVOT, INNOV, RANGE, KIND, verdict}
+use lib.Ieee.Scale.{finite}
+use Rattle.floats.specs.Refusal.{Refusal, SIZE, SHORT, STAGE, STALE, NUMBER, PARAM, PIVOT, INNOV, RANGE, KIND, badLone, verdict, accepted, refusal, unless, onward, nothing}
+use Rattle.floats.specs.Search.{searched, searchedFrom}
 use Rattle.floats.proofs.Refusals.{number-of}
 use Rattle.floats.specs.Numbers.{zeros}
 use Rattle.floats.specs.Fronts.{front}
-use Rattle.matrix.specs.Results.{Result, planned}
+use Rattle.angles.specs.Kinds.{halfOf, passes, kindOf}
+use Rattle.angles.specs.declared.Kind.{Kind}
+use Rattle.matrix.specs.Results.{Result, run, planned}
 use Rattle.sigma.specs.Draw.{pointNumbers}
 use Rattle.correction.specs.Correct.{applyPlan}
 use Rattle.filter.specs.declared.Filter.{Filter}
-use Rattle.filter.specs.Asked.{Size}
-use Rattle.filter.specs.Filters.{seen, Writing, Setting, Closing, Change, writes, sets, closes, abandons, reads}
+use Rattle.filter.specs.Asked.{Size, within, inOrder, guarded}
+use Rattle.filter.specs.Filters.{isShut, seen, Writing, Setting, Closing, Change, writes, sets, closes, abandons, reads}
 use Rattle.filter.specs.Calls.{set-x, set-p, set-q, set-params, set-kind, open-prediction, open-correction, close-prediction, close-correction, close-correction-flat, read-x, read-p, read-q, read-points, read-params, read-stale, Call, writing, setting, closing, abandon, reading, fits, asks, Done, closed, plan, weightedFrom, flatFrom}
 use Rattle.filter.specs.Steps.{step}
 use Rattle.filter.proofs.Closing.{predicting}
-use Rattle.demands.specs.Rows.{Some, here, OutOfRange, searches, IsTurn, IsFlat, FirstFails, Cause, stage, size, short, stale, kind, param, met, gives, Applies, rank, ByStep}
+use Rattle.demands.specs.Rows.{Some, here, OutOfRange, searches, InTurn, IsTurn, IsFlat, FirstFails, Cause, stage, size, short, stale, kind, param, met, gives, Applies, rank, ByStep}
 use Rattle.demands.specs.Rows as Row
 use Rattle.demands.specs.Sound.{end, and}
-use Rattle.demands.proofs.Rows.{two-ways, none}
-use Rattle.demands.proofs.Exactly.{exactly}
+use Rattle.demands.proofs.Rows.{two-ways, passes-where, none, ranged}
+use Rattle.demands.proofs.Exactly.{step-told, exactly}
 use Rattle.demands.proofs.Passed.{Ran, ran-finish, ran-mapped, ran-either}
 use Rattle.demands.proofs.Listed.{drawing, open-prediction-lists, open-correction-lists, close-prediction-lists, close-correction-lists, close-correction-flat-lists}
 use Rattle.demands.proofs.ByStep.{StepsOwn, met-by-step, draw-own, correct-own}
@@ -92,6 +96,21 @@ searches-so s (reading (read-q b)) = refl
 searches-so s (reading (read-points b)) = refl
 searches-so s (reading read-params) = refl
 searches-so s (reading read-stale) = refl
+
+-- slice after slice in the order of their numbers
+pub in-turn : (n : ℕ) (c : Call) → InTurn 50 (searches n c)
+in-turn n (writing (set-q v)) = (omega arith, tt)
+in-turn n (writing (set-params p)) = (omega arith, tt)
+in-turn n (writing (set-kind i k)) = (omega arith, tt)
+in-turn n (setting (set-x v)) = (omega arith, tt)
+in-turn n (setting (set-p v)) = (omega arith, tt)
+in-turn n (setting (open-prediction b)) = tt
+in-turn n (setting (open-correction b)) = tt
+in-turn n (closing (close-prediction v)) = (omega arith, tt)
+in-turn n (closing (close-correction m z r kinds observed)) = (omega arith, (omega arith, (omega arith, (omega arith, tt))))
+in-turn n (closing (close-correction-flat m z r observed)) = (omega arith, (omega arith, (omega arith, (omega arith, tt))))
+in-turn n abandon = tt
+in-turn n (reading c) = tt
 
 -- ---- so of every call
 
@@ -179,3 +198,19 @@ module _ (f : Format) (s : Filter) (c : Call) where
       early kind l x t = absurd (omega arith)
       early param l x t = absurd (omega arith)
       early (met r) l x t = absurd (omega arith)
+
+-- setting a kind answers what the check of the kind does, once 3 and 1 are passed
+pub kind-checked : (f : Format) (s : Filter) (i : ℕ) (k : Kind) → isShut (s .track .stage) ≡ true → (1 ≤ s .sheet .n) × (s .sheet .n ≤ 8) → i < s .sheet .n → step f s (writing (set-kind i k)) .reply .refusal ≡ refusal (kindOf f k)
+unfolding guarded inOrder searched searchedFrom run
+kind-checked f s i k h w l = step-told f s (writing (set-kind i k)) ∙ rw (h, states, index) (go _ (finite (halfOf k)) (passes f (k .residual)))
+  where
+    states : within (record { value = s .sheet .n; from = 1; to = 8 }) ≡ true
+    states = passes-where (ranged _) (⊎-elim (λ b. omega arith) (λ b. omega arith))
+
+    index : within (record { value = i; from = 0; to = s .sheet .n - 1 }) ≡ true
+    index = passes-where (ranged _) (⊎-elim (λ b. omega arith) (λ b. omega arith))
+
+    go : (d : Done) (t u : Bool) → refusal (onward (onward (unless t badLone nothing) (λ (x : Bool). nothing)) (λ (x : Bool). unless (u && true) PARAM (accepted d))) ≡ refusal (unless t badLone (unless u PARAM (accepted k)))
+    go d true true = refl
+    go d true false = refl
+    go d false u = refl

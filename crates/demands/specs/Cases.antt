@@ -25,13 +25,14 @@ use Rattle.correction.specs.Correct.{Head, given, weightedHead}
 use Rattle.filter.specs.declared.Filter.{Filter}
 use Rattle.filter.specs.Calls.{Call, writing, setting, closing, abandon, reading, set-x, set-p, set-q, set-params, set-kind, open-prediction, open-correction, close-prediction, close-correction, close-correction-flat, read-q, read-points, read-stale}
 use Rattle.filter.specs.New.{newAnswer}
+use Rattle.filter.specs.Point.{pointRefusal}
 use Rattle.pairs.specs.declared.Pair.{Pair}
 use Rattle.pairs.specs.declared.Side.the-variants.{First, Second}
 use Rattle.pairs.specs.NewPair.{newPairAnswer}
 use Rattle.demands.specs.Listed.{gain}
 use Rattle.demands.specs.Runs.{Told, told}
 use Rattle.demands.specs.PairRuns.{SideCall, by, pairTold}
-use Rattle.demands.specs.Written.{int, minus, frac, two-to-minus, _is_, _are_}
+use Rattle.demands.specs.Written.{int, minus, frac, two-to, two-to-minus, _is_, _are_}
 
 -- ---- parameters
 
@@ -209,10 +210,10 @@ pairStory =
     ∷ ("A4 the second as it was", (by Second (reading (read-points three)), telling 4 [] (int 5) (int 16) true))
     ∷ []
 
--- A5 through the calls, on two states: x = (1, 2) and P = 4I by parameters with kappa = 2, so that N = 4 and the points are x and 2·2 to either side. Numbers past the front of a slice aren't searched. Of (1 2, 2 1) the second pivot is 1 − 2·2, so an open gives 7 there.
--- A close of two measurements searches R, observed points, z and half-turns in this order; a plain kind keeps its place among the half-turns, and kinds from m up aren't read. Observed all 1, S is R.
-abbrev pub c5 : Params
-c5 = params (int 1) (int 0) (int 2)
+-- A5 through the calls, on two states: x = (1, 2), P = 4I, and parameters with kappa = 2, so that N = 4 and the points are x and 2·2 to either side. Numbers past the front of a slice aren't searched. Of (1 2, 2 1) the second pivot is 1 − 2·2, so an open gives 7 there.
+-- A close searches R, observed points, z and half-turns in this order; a plain kind keeps its place among the half-turns, and kinds from m up aren't read. Observed all 1, S is R.
+abbrev pub kappaTwo : Params
+kappaTwo = params (int 1) (int 0) (int 2)
 
 abbrev pub two : Float → Float → List Float
 two a b = a ∷ b ∷ []
@@ -221,7 +222,7 @@ abbrev pub four : Float → Float → Float → Float → List Float
 four a b c d = a ∷ b ∷ c ∷ d ∷ []
 
 abbrev pub twoStates : Filter
-twoStates = newAnswer binary64 2 (two (int 1) (int 2)) (four (int 4) (int 0) (int 0) (int 4)) (four (int 1) (int 0) (int 0) (int 1)) c5 .filter
+twoStates = newAnswer binary64 2 (two (int 1) (int 2)) (four (int 4) (int 0) (int 0) (int 4)) (four (int 1) (int 0) (int 0) (int 1)) kappaTwo .filter
 
 -- a lent buffer of ten, and the points that come
 abbrev pub ten : List Float
@@ -230,9 +231,12 @@ ten = replicate 10 nan
 abbrev pub drawnTen : List Float
 drawnTen = int 1 ∷ int 2 ∷ int 5 ∷ int 2 ∷ int 1 ∷ int 6 ∷ minus 3 ∷ int 2 ∷ int 1 ∷ minus 2 ∷ []
 
--- ten numbers with a NaN at i and an infinity after it
+-- k ones; and ten with a NaN at i and an infinity after it, if one comes after it
+abbrev pub ones : ℕ → List Float
+ones k = replicate k (int 1)
+
 abbrev pub badAt : ℕ → List Float
-badAt i = set (set (replicate 10 (int 1)) (i + 1) (inf true)) i nan
+badAt i = set (set (ones 10) (i + 1) (inf true)) i nan
 
 abbrev pub flawed : List Float
 flawed = four (int 1) (int 2) (int 2) (int 1)
@@ -243,7 +247,7 @@ searching r observed z kinds = closing (close-correction 2 z r kinds observed)
 abbrev pub kindsOf : Residual → Residual → Residual → List Kind
 kindsOf a b c = record { residual = a } ∷ record { residual = b } ∷ record { residual = c } ∷ plain ∷ []
 
--- what a call should tell by which x and P = (d e, e d) stand: the number at its place and the numbers given
+-- what a call should tell, after which x is (1, 2), P is (d e, e d) and the filter is stale: the number at its place and the numbers given
 abbrev pub placing : ℕ → ℕ → List Float → ℕ → ℕ → Told
 placing number place given d e = record { reply = record { refusal = record { number = number; place = place }; given = given; stale = true }; x = two (int 1) (int 2); p = four (int d) (int e) (int e) (int d); stale = true }
 
@@ -256,6 +260,7 @@ placeStory =
     ∷ ("A5 alpha", (writing (set-params (params (inf false) nan (int 2))), placing 56 0 [] 4 0))
     ∷ ("A5 kappa", (writing (set-params (params (int 1) (int 0) nan)), placing 56 2 [] 4 0))
     ∷ ("A5 a kind of the filter", (writing (set-kind 1 (record { residual = bad })), placing 56 0 [] 4 0))
+    ∷ ("A5 1 before it", (writing (set-kind 2 (record { residual = bad })), placing 1 0 [] 4 0))
     ∷ ("A5 past the front", (setting (set-p (flawed ++ (nan ∷ []))), placing 0 0 [] 1 2))
     ∷ ("A5 a pivot of P", (setting (open-prediction ten), placing 7 1 [] 1 2))
     ∷ ("A5 the same by a correction", (setting (open-correction ten), placing 7 1 [] 1 2))
@@ -266,17 +271,18 @@ placeStory =
     ∷ ("A5 a correction", (setting (open-correction ten), placing 0 0 drawnTen 4 0))
     ∷ ("A5 R first", (searching (badAt 2) (badAt 0) (badAt 0) (kindsOf bad bad Plain), placing 53 2 [] 4 0))
     ∷ ("A5 points before z", (searching flawed (badAt 4) (badAt 0) (kindsOf bad bad Plain), placing 54 4 [] 4 0))
-    ∷ ("A5 z before half-turns", (searching flawed (replicate 10 (int 1)) (badAt 1) (kindsOf bad bad Plain), placing 55 1 [] 4 0))
-    ∷ ("A5 a plain kind keeps its place", (searching flawed (replicate 10 (int 1)) (two (int 1) (int 1)) (kindsOf Plain bad Plain), placing 56 1 [] 4 0))
-    ∷ ("A5 half-turns before 6", (searching flawed (replicate 10 (int 1)) (two (int 1) (int 1)) (kindsOf (Turn (int 0)) bad Plain), placing 56 1 [] 4 0))
-    ∷ ("A5 6 tells no place", (searching flawed (replicate 10 (int 1)) (two (int 1) (int 1)) (kindsOf Plain (Turn (int 0)) Plain), placing 6 0 [] 4 0))
-    ∷ ("A5 a pivot of S", (searching flawed (replicate 10 (int 1)) (two (int 1) (int 1)) (kindsOf Plain Plain bad), placing 8 1 [] 4 0))
+    ∷ ("A5 z before half-turns", (searching flawed (ones 10) (badAt 1) (kindsOf bad bad Plain), placing 55 1 [] 4 0))
+    ∷ ("A5 a plain kind keeps its place", (searching flawed (ones 10) (two (int 1) (int 1)) (kindsOf Plain bad Plain), placing 56 1 [] 4 0))
+    ∷ ("A5 half-turns before 6", (searching flawed (ones 10) (two (int 1) (int 1)) (kindsOf (Turn (int 0)) bad Plain), placing 56 1 [] 4 0))
+    ∷ ("A5 the last of four", (closing (close-correction 4 (ones 4) (ones 16) (plain ∷ plain ∷ record { residual = Turn (int 0) } ∷ record { residual = Turn (inf false) } ∷ []) (ones 20)), placing 56 3 [] 4 0))
+    ∷ ("A5 6 tells no place", (searching flawed (ones 10) (two (int 1) (int 1)) (kindsOf Plain (Turn (int 0)) Plain), placing 6 0 [] 4 0))
+    ∷ ("A5 a pivot of S", (searching flawed (ones 10) (two (int 1) (int 1)) (kindsOf Plain Plain bad), placing 8 1 [] 4 0))
     ∷ ("A5 flat, R first", (closing (close-correction-flat 2 (badAt 0) (badAt 3) (badAt 0)), placing 53 3 [] 4 0))
     ∷ ("A5 flat, points before z", (closing (close-correction-flat 2 (badAt 0) flawed (badAt 9)), placing 54 9 [] 4 0))
-    ∷ ("A5 flat, a pivot of S", (closing (close-correction-flat 2 (two (int 1) (int 1)) flawed (replicate 10 (int 1))), placing 8 1 [] 4 0))
+    ∷ ("A5 flat, a pivot of S", (closing (close-correction-flat 2 (two (int 1) (int 1)) flawed (ones 10)), placing 8 1 [] 4 0))
     ∷ []
 
--- New of two states, and of a pair of them: a refused one has no states (`refused-new` in Demand1 and Pairs has all of it)
+-- a refused New, of two states or of a pair, has no states (`refused-new` in Demand1 and Pairs has all of it)
 abbrev pub newIs : List Float → List Float → List Float → Params → ℕ → ℕ → Bool
 newIs x p q par number place = let a = newAnswer binary64 2 x p q par in says (a .refusal) number place && eqb (a .filter .sheet .n) 0
 
@@ -321,12 +327,16 @@ leafCases =
     ∷ ("C7", take 4 (or [] (worked (factorOf binary64 PIVOT (rows (int 4) (int 2) (int 2) (int 5)) 2))) are (int 2 ∷ int 0 ∷ int 1 ∷ int 2 ∷ []))
     ∷ ("C8 second pivot", checked (getD (results (factorOf binary64 PIVOT (rows (int 1) (int 2) (int 2) (int 1)) 2)) 2 (numbers [])) is minus 3)
     ∷ ("C8 refused", says (refusal (worked (factorOf binary64 PIVOT (rows (int 1) (int 2) (int 2) (int 1)) 2))) 7 1)
+    ∷ ("A5 a factor entry", says (refusal (worked (factorOf binary64 PIVOT (rows (two-to-minus 1022) (int 0) (two-to 600) (int 1)) 2))) 9 0)
+    ∷ ("A5 point 5 of five", says (pointRefusal binary64 (ones 10) 2 5) 1 0)
+    ∷ ("A5 point 4, whose numbers aren't judged", says (pointRefusal binary64 (badAt 8) 2 4) 0 0)
     ∷ ("A5 root of −1", says (refusal (outcomeOf (answer (minus 1)))) 56 0)
     ∷ ("A5 root of an infinity", says (refusal (outcomeOf (answer (inf false)))) 56 0)
     ∷ ("A5 wrap of a NaN", says (wrapped (wrapOf binary64 nan (int 180)) .refusal) 56 0)
     ∷ ("A5 wrap by an infinity", says (wrapped (wrapOf binary64 (int 1) (inf false)) .refusal) 56 0)
     ∷ ("A5 wrap by 0", says (wrapped (wrapOf binary64 (int 1) (int 0)) .refusal) 6 0)
     ∷ ("A5 a turn by a NaN", says (refusal (kindOf binary64 (record { residual = Turn nan }))) 56 0)
+    ∷ ("A5 a turn by an infinity", says (refusal (kindOf binary64 (record { residual = Turn (inf true) }))) 56 0)
     ∷ ("A5 a turn by 0", says (refusal (kindOf binary64 (record { residual = Turn (int 0) }))) 6 0)
     ∷ ("C10 S", take 1 (c10 .s) are (int 16 ∷ []))
     ∷ ("C10 K", take 1 (gain binary64 c10) are (frac 1 4 ∷ []))
@@ -342,10 +352,10 @@ flatCases = against flatStory (told binary64 at-first (map (λ e. e .1 .0) flatS
 abbrev pub settingCases : List (String × Bool)
 settingCases = against settingStory (told binary64 at-first (map (λ e. e .1 .0) settingStory))
 
--- New with two bad numbers each; the parameters without one fail 6, as kappa = −2 makes N 0
+-- New with bad numbers in two slices, or in two parameters; those without one fail 6, as kappa = −2 makes N 0
 abbrev pub placeCases : List (String × Bool)
 placeCases =
-    let fine : List Float = replicate 10 (int 1) in
+    let fine = ones 10 in
     let unfit : Params = params (int 1) (int 0) (minus 2) in
     ("A5 New, x before P", newIs (badAt 1) (badAt 0) fine unfit 51 1)
     ∷ ("A5 New, P before Q", newIs fine (badAt 3) (badAt 0) unfit 52 3)

@@ -12,16 +12,16 @@ use Rattle.floats.specs.declared.Slice.the-variants.{State, Covariance, Noise, 
 use Rattle.floats.specs.Refusal.{Refusal, SIZE, SHORT, STAGE, STALE, NUMBER, PARAM, PIVOT, INNOV, RANGE, KIND, badLone, sliceNumber}
 use Rattle.floats.specs.Search.{Input, input}
 use Rattle.floats.specs.Numbers.{plusZero, allFinite}
-use Rattle.angles.specs.Kinds.{halfOf}
+use Rattle.angles.specs.Kinds.{plain, halfOf}
 use Rattle.angles.specs.declared.Kind.{Kind}
 use Rattle.angles.specs.declared.Residual.{Residual}
 use Rattle.angles.specs.declared.Residual.the-variants.{Plain, Turn}
-use Rattle.matrix.specs.Results.{Result, numbers, pivot, rooting, refusalOf}
+use Rattle.matrix.specs.Results.{Result, numbers, pivot, rooting, refusalOf, planned}
 use Rattle.sigma.specs.Weights.{scaleOf, w0mOf, w0cOf, wiOf}
 use Rattle.filter.specs.declared.Filter.{Filter}
-use Rattle.filter.specs.Filters.{isCorrecting}
+use Rattle.filter.specs.Filters.{isCorrecting, seen}
 use Rattle.filter.specs.Asked.{Size, Lent, Param, by-params, by-kind, Asks}
-use Rattle.filter.specs.Calls.{Call, writing, setting, closing, abandon, reading, set-x, set-p, set-q, set-params, set-kind, open-prediction, open-correction, close-prediction, close-correction, close-correction-flat, halves}
+use Rattle.filter.specs.Calls.{Call, writing, setting, closing, abandon, reading, set-x, set-p, set-q, set-params, set-kind, open-prediction, open-correction, close-prediction, close-correction, close-correction-flat, halves, asks, plan}
 
 -- one of the list has P
 pub data Some {A : Type 0} (P : A → Type 0) : List A → Type 0 where
@@ -56,7 +56,7 @@ pub data FirstBad : Slice → ℕ → List Input → Type 0 where
   found : {i : ℕ} {x : Input} {l : List Input} → FirstIn (x .numbers) i → FirstBad (x .slice) i (x ∷ l)
   further : {s : Slice} {i : ℕ} {x : Input} {l : List Input} → (Some NotFinite (x .numbers) → ⊥) → FirstBad s i l → FirstBad s i (x ∷ l)
 
--- what each call searches, in the request's words: state, covariance, noise, points, measurement, lone values. Of a filter of n states
+-- what each call on a filter of n states searches: state, covariance, noise, points, measurement, lone values
 abbrev pub searches : ℕ → Call → List Input
 searches n (setting (set-x v)) = input State (take n v)
 searches n (setting (set-p v)) = input Covariance (take (n * n) v)
@@ -70,6 +70,19 @@ searches n (setting (open-prediction b)) = []
 searches n (setting (open-correction b)) = []
 searches n abandon = []
 searches n (reading c) = []
+
+-- slices in the order of their numbers, each once
+abbrev pub InTurn : ℕ → List Input → Type 0
+InTurn k [] = Unit {0}
+InTurn k (x ∷ l) = (k < sliceNumber (x .slice)) × InTurn (sliceNumber (x .slice)) l
+
+-- a half-turn that comes in isn't finite
+abbrev pub BadTurn : Kind → Type 0
+BadTurn k = (h : Float) × (k .residual ≡ Turn h) × NotFinite h
+
+-- of the kinds it is the first at i
+abbrev pub FirstTurn : List Kind → ℕ → Type 0
+FirstTurn ks i = BadTurn (getD ks i plain) × ((j : ℕ) → j < i → BadTurn (getD ks j plain) → ⊥)
 
 -- 10: a state kind is a turn
 abbrev pub IsTurn : Kind → Type 0
@@ -122,7 +135,7 @@ Applies f a vs kind = Some IsTurn (a .plain)
 Applies f a vs param = Some (Unfit f) (a .params)
 Applies f a vs (met r) = FirstFails r vs
 
--- the order: 3, 1, 2, 4, 51 to 56 as the search finds them, 10, 6, then 7, 8 and 9 as the steps meet them
+-- the order: 3, 1, 2, 4, 51 to 56 as the search finds them, 10, 6, then 7, 8, 9 and a root's 56 as the steps meet them
 abbrev pub rank : Cause → ℕ
 rank stage = 0
 rank size = 1
@@ -139,6 +152,10 @@ pub record Due (f : Format) (a : Asks) (vs : List Result) (r : Refusal) : Type 0
   pub gives-it : gives cause ≡ r
   pub applies : Applies f a vs cause
   pub no-earlier : (c : Cause) → rank c < rank cause → Applies f a vs c → ⊥
+
+-- nothing is refused before the steps of a call
+abbrev pub Free : Format → Filter → Call → Type 0
+Free f s c = (d : Cause) → rank d < 7 → Applies f (asks (seen s) c) (planned (plan f (seen s) c)) d → ⊥
 
 -- ---- what a step can give: 56 at 0, 7 and 8 at any row, and 9
 

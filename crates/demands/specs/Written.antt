@@ -17,9 +17,12 @@ minus k = neg (int k)
 abbrev pub frac : ℕ → ℕ → Float
 frac a b = div binary64 (int a) (int b)
 
--- 2 ^ −k
+-- 2 ^ k and 2 ^ −k
+abbrev pub two-to : ℕ → Float
+two-to k = fin false 1 (pos k)
+
 abbrev pub two-to-minus : ℕ → Float
-two-to-minus zero = fin false 1 (pos 0)
+two-to-minus zero = two-to 0
 two-to-minus (suc k) = fin false 1 (negsuc k)
 
 -- the same bits

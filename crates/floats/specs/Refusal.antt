@@ -53,7 +53,7 @@ badLone = NUMBER Lone 0
 abbrev pub verdict : Refusal → Verdict
 verdict r = record { number = number r; place = placeOf r }
 
--- a number that tells no place
+-- a number at place 0
 abbrev pub placeless : ℕ → Verdict
 placeless k = record { number = k; place = 0 }
 

@@ -68,7 +68,7 @@ pub fn all_finite(s: &[f64], k: usize) -> bool
 
 // ---- what every answer says
 
-// A number that tells no place.
+// A number at place 0.
 pub fn placeless(number: u8) -> Verdict
     ensures { λ r. ⌜ r ≡ placeless number ⌝ }
 {

@@ -21,16 +21,16 @@ use Rattle.matrix.proofs.Cells.{length-zeros, zeros-at, total-same}
 use Rattle.matrix.proofs.Results.{worked-then}
 use Rattle.matrix.proofs.FactorSteps.{all-one}
 
-module _ (f : Format) (r : ℕ → Refusal) (a : List Float) (n : ℕ) where
-  -- row s of column k is made once the work has come to row i of column j
-  abbrev pub Was : ℕ → ℕ → ℕ → ℕ → Type 0
-  Was j i s k = (k < j) ⊎ ((k ≡ j) × (s < i))
+-- row s of column k is made once the work has come to row i of column j
+abbrev pub Was : ℕ → ℕ → ℕ → ℕ → Type 0
+Was j i s k = (k < j) ⊎ ((k ≡ j) × (s < i))
 
+module _ (f : Format) (r : ℕ → Refusal) (a : List Float) (n : ℕ) where
   -- why a work stopped, with the entries that were right so far
   pub data Stopped : Refusal → Type 0 where
-    at-pivot : (j : ℕ) (l : List Float) → j < n → Part f r a n (Was j j) l → aboveZero (leftOf f r a n j j l) ≡ false → Stopped (r j)
-    at-entry : (i j : ℕ) (l : List Float) → j < i → i < n → Part f r a n (Was j i) l
-        → finite (div f (leftOf f r a n i j l) (getD l (j * n + j) nan)) ≡ false → Stopped RANGE
+    at-pivot : (j : ℕ) (l : List Float) → j < n → Part f a n (Was j j) l → aboveZero (leftOf f a n j j l) ≡ false → Stopped (r j)
+    at-entry : (i j : ℕ) (l : List Float) → j < i → i < n → Part f a n (Was j i) l
+        → finite (div f (leftOf f a n i j l) (getD l (j * n + j) nan)) ≡ false → Stopped RANGE
 
   -- what an outcome means: P of what was made, or a reason to stop
   abbrev pub Means : (List Float → Type 0) → Outcome (List Float) → Type 0
@@ -59,7 +59,7 @@ module _ (f : Format) (r : ℕ → Refusal) (a : List Float) (n : ℕ) where
     kept-was : (s k : ℕ) → k < n → Was j i s k → getD l′ (s * n + k) nan ≡ getD l (s * n + k) nan
     kept-was s k h w = ⊎-elim (λ q. kept-column s k h (λ z. omega arith)) (λ q. kept-row s k h (λ z. omega arith)) w
 
-    kept-left : (s k : ℕ) → k ≤ j → leftOf f r a n s k l′ ≡ leftOf f r a n s k l
+    kept-left : (s k : ℕ) → k ≤ j → leftOf f a n s k l′ ≡ leftOf f a n s k l
     kept-left s k h =
         total-same (sub f) (getD a (s * n + k) nan) (productAt f l′ (s * n) l′ (k * n)) (productAt f l (s * n) l (k * n)) k
         (λ m q. rw (kept-column s m (omega arith) (λ z. omega arith), kept-column k m (omega arith) (λ z. omega arith)))
@@ -70,13 +70,13 @@ module _ (f : Format) (r : ℕ → Refusal) (a : List Float) (n : ℕ) where
     was-le : (s k : ℕ) → Was j i s k → k ≤ j
     was-le s k w = ⊎-elim (λ q. omega arith) (λ q. omega arith) w
 
-    kept-diag : (k : ℕ) → k < n → Was j i k k → Diag f r a n l k → Diag f r a n l′ k
+    kept-diag : (k : ℕ) → k < n → Was j i k k → Diag f a n l k → Diag f a n l′ k
     kept-diag k h w d = record {
       above = rw (kept-left k k (was-le k k w)) (d .above);
       root = rw (kept-left k k (was-le k k w), kept-was k k h w) (d .root);
     }
 
-    kept-low : (s k : ℕ) → k < s → s < n → Was j i s k → Low f r a n l s k → Low f r a n l′ s k
+    kept-low : (s k : ℕ) → k < s → s < n → Was j i s k → Low f a n l s k → Low f a n l′ s k
     kept-low s k g h w d =
         let own : Was j i k k = ⊎-elim (λ q. inl q) (λ q. inr (q .0, omega arith)) w in
         record {
@@ -95,7 +95,7 @@ module _ (f : Format) (r : ℕ → Refusal) (a : List Float) (n : ℕ) where
     kept-rest p h = getD-set-other l (i * n + j) p e nan (λ q. omega (arith, row-before i n n hi))
 
     -- the entry made, all that were made before it stay right
-    set-part : Part f r a n (Was j i) l → (i ≡ j → Diag f r a n l′ j) → (j < i → Low f r a n l′ i j) → Part f r a n (Was j (i + 1)) l′
+    set-part : Part f a n (Was j i) l → (i ≡ j → Diag f a n l′ j) → (j < i → Low f a n l′ i j) → Part f a n (Was j (i + 1)) l′
     set-part p here under = record {
       long = length-set l (i * n + j) e ∙ p .long;
       diagonal = λ k g w.
@@ -121,15 +121,15 @@ module _ (f : Format) (r : ℕ → Refusal) (a : List Float) (n : ℕ) where
     }
 
   module _ (small : n ≤ 8) where
-    set-diag : (j : ℕ) → j < n → (l : List Float) (e : Float) → Part f r a n (Was j j) l
-        → aboveZero (leftOf f r a n j j l) ≡ true → e ≡ rootOf f (leftOf f r a n j j l) → Part f r a n (Was j (j + 1)) (set l (j * n + j) e)
+    set-diag : (j : ℕ) → j < n → (l : List Float) (e : Float) → Part f a n (Was j j) l
+        → aboveZero (leftOf f a n j j l) ≡ true → e ≡ rootOf f (leftOf f a n j j l) → Part f a n (Was j (j + 1)) (set l (j * n + j) e)
     set-diag j h l e p t q =
         let jj : j ≤ j = omega arith in
         let x = kept-left small j j h jj l e j j jj in
         set-part small j j h jj l e p (λ z. record { above = rw x t; root = rw (x, new small j j h jj l e (p .long)) q }) (λ z. absurd (omega arith))
 
-    set-low : (i j : ℕ) → j < i → i < n → (l : List Float) (e : Float) → Part f r a n (Was j i) l
-        → e ≡ div f (leftOf f r a n i j l) (getD l (j * n + j) nan) → finite e ≡ true → Part f r a n (Was j (i + 1)) (set l (i * n + j) e)
+    set-low : (i j : ℕ) → j < i → i < n → (l : List Float) (e : Float) → Part f a n (Was j i) l
+        → e ≡ div f (leftOf f a n i j l) (getD l (j * n + j) nan) → finite e ≡ true → Part f a n (Was j (i + 1)) (set l (i * n + j) e)
     set-low i j b h l e p t q =
         let ji : j ≤ i = omega arith in
         let x = new small i j h ji l e (p .long) in
@@ -138,7 +138,7 @@ module _ (f : Format) (r : ℕ → Refusal) (a : List Float) (n : ℕ) where
         set-part small i j h ji l e p (λ g. absurd (omega arith)) (λ g. record { quotient = rw (x, y, z) t; bounded = rw x q })
 
     -- a column that is made to its end
-    shift : (j : ℕ) (l : List Float) → Part f r a n (Was j n) l → Part f r a n (Was (j + 1) (j + 1)) l
+    shift : (j : ℕ) (l : List Float) → Part f a n (Was j n) l → Part f a n (Was (j + 1) (j + 1)) l
     shift j l p = record {
       long = p .long;
       diagonal = λ k g w. p .diagonal k g (before k k g w (omega arith));
@@ -150,11 +150,11 @@ module _ (f : Format) (r : ℕ → Refusal) (a : List Float) (n : ℕ) where
         before : (s k : ℕ) → s < n → Was (j + 1) (j + 1) s k → k ≤ s → Was j n s k
         before s k h w g = ⊎-elim (λ o. inl o) (λ o. ⊎-elim (λ q. inr (omega arith, h)) (λ q. absurd (omega arith)) w) (split k j)
 
-    rows-mean : (j : ℕ) (d : Float) (m i : ℕ) (l : List Float) → i + m ≡ n → j < i → d ≡ getD l (j * n + j) nan → Part f r a n (Was j i) l → Means (Part f r a n (Was j n)) (worked (rowsFrom f r a n j d m i l))
+    rows-mean : (j : ℕ) (d : Float) (m i : ℕ) (l : List Float) → i + m ≡ n → j < i → d ≡ getD l (j * n + j) nan → Part f a n (Was j i) l → Means (Part f a n (Was j n)) (worked (rowsFrom f r a n j d m i l))
     unfolding rowsFrom worked
-    rows-mean j d zero i l s b q p = let x : i ≡ n = omega arith in subst (λ (k : ℕ). Part f r a n (Was j k) l) x p
+    rows-mean j d zero i l s b q p = let x : i ≡ n = omega arith in subst (λ (k : ℕ). Part f a n (Was j k) l) x p
     rows-mean j d (suc m) i l s b q p =
-        let e = div f (leftOf f r a n i j l) d in
+        let e = div f (leftOf f a n i j l) d in
         unless-means _ _ RANGE _
         (λ t. at-entry i j l b (omega arith) p (rw (← q) (sym (all-one e) ∙ t)))
         (λ t.
@@ -162,10 +162,10 @@ module _ (f : Format) (r : ℕ → Refusal) (a : List Float) (n : ℕ) where
         (q ∙ sym (kept-row small i j (omega arith) (omega arith) l e j j (omega arith) (λ g. omega arith)))
         (set-low i j b (omega arith) l e p (rw q) (sym (all-one e) ∙ t)))
 
-    column-mean : (j : ℕ) (l : List Float) → j < n → Part f r a n (Was j j) l → Means (Part f r a n (Was (j + 1) (j + 1))) (worked (columnOf f r a n j l))
+    column-mean : (j : ℕ) (l : List Float) → j < n → Part f a n (Was j j) l → Means (Part f a n (Was (j + 1) (j + 1))) (worked (columnOf f r a n j l))
     unfolding columnOf worked
     column-mean j l h p =
-        let e = rootOf f (leftOf f r a n j j l) in
+        let e = rootOf f (leftOf f a n j j l) in
         unless-means _ _ (r j) _
         (λ t. at-pivot j l h p t)
         (λ t.
@@ -174,11 +174,11 @@ module _ (f : Format) (r : ℕ → Refusal) (a : List Float) (n : ℕ) where
         (sym (new small j j h (omega arith) l e (p .long)))
         (set-diag j h l e p t refl)))
       where
-        made-to-end : (k : ℕ) (o : Outcome (List Float)) → Means (Part f r a n (Was k n)) o → Means (Part f r a n (Was (k + 1) (k + 1))) o
+        made-to-end : (k : ℕ) (o : Outcome (List Float)) → Means (Part f a n (Was k n)) o → Means (Part f a n (Was (k + 1) (k + 1))) o
         made-to-end k (accepted z) q = shift k z q
         made-to-end k (refused s) q = q
 
-    columns-mean : (m j : ℕ) (l : List Float) → j + m ≡ n → Part f r a n (Was j j) l → Means (Lower f r a n) (worked (columnsFrom f r a n m j l))
+    columns-mean : (m j : ℕ) (l : List Float) → j + m ≡ n → Part f a n (Was j j) l → Means (Lower f a n) (worked (columnsFrom f r a n m j l))
     unfolding columnsFrom worked
     columns-mean zero j l s p = record {
       long = p .long;
@@ -189,9 +189,9 @@ module _ (f : Format) (r : ℕ → Refusal) (a : List Float) (n : ℕ) where
     }
     columns-mean (suc m) j l s p =
         rw (worked-then (columnOf f r a n j l) (λ (k : List Float). columnsFrom f r a n m (j + 1) k))
-        (onward-means (Part f r a n (Was (j + 1) (j + 1))) (Lower f r a n) (worked (columnOf f r a n j l)) _ (column-mean j l (omega arith) p) (λ k q. columns-mean m (j + 1) k (omega arith) q))
+        (onward-means (Part f a n (Was (j + 1) (j + 1))) (Lower f a n) (worked (columnOf f r a n j l)) _ (column-mean j l (omega arith) p) (λ k q. columns-mean m (j + 1) k (omega arith) q))
 
-    begun : Part f r a n (Was 0 0) (zeros 64)
+    begun : Part f a n (Was 0 0) (zeros 64)
     begun = record {
       long = length-zeros 64;
       diagonal = λ k h w. ⊎-elim (λ q. absurd (omega arith)) (λ q. absurd (omega arith)) w;
@@ -200,13 +200,13 @@ module _ (f : Format) (r : ℕ → Refusal) (a : List Float) (n : ℕ) where
       rest = λ p g h. zeros-at 64 p h;
     }
 
-    factor-means : Means (Lower f r a n) (worked (factorOf f r a n))
+    factor-means : Means (Lower f a n) (worked (factorOf f r a n))
     factor-means = columns-mean n 0 (zeros 64) (omega arith) begun
 
     -- A WORK THAT IS ACCEPTED HAS MADE A FACTOR
-    pub is-factor : (l : List Float) → worked (factorOf f r a n) ≡ accepted l → Lower f r a n l
-    is-factor l e = subst (Means (Lower f r a n)) e factor-means
+    pub is-factor : (l : List Float) → worked (factorOf f r a n) ≡ accepted l → Lower f a n l
+    is-factor l e = subst (Means (Lower f a n)) e factor-means
 
     -- A WORK THAT STOPPED HAS A REASON
     pub is-stopped : (q : Refusal) → worked (factorOf f r a n) ≡ refused q → Stopped q
-    is-stopped q e = subst (Means (Lower f r a n)) e factor-means
+    is-stopped q e = subst (Means (Lower f a n)) e factor-means

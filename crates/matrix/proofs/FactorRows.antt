@@ -26,7 +26,7 @@ module _ (f : Format) (r : ℕ → Refusal) (a : List Float) (n : ℕ) where
   record Same (c : ℕ) (l m : List Float) : Type 0 where
     at : (s k : ℕ) → k < c → k ≤ s → s < n → getD l (s * n + k) nan ≡ getD m (s * n + k) nan
 
-  left-same : {c : ℕ} {l m : List Float} → Same c l m → (s k : ℕ) → k ≤ c → k ≤ s → s < n → leftOf f r a n s k l ≡ leftOf f r a n s k m
+  left-same : {c : ℕ} {l m : List Float} → Same c l m → (s k : ℕ) → k ≤ c → k ≤ s → s < n → leftOf f a n s k l ≡ leftOf f a n s k m
   left-same {c} {l} {m} e s k h g i =
       total-same (sub f) (getD a (s * n + k) nan) (productAt f l (s * n) l (k * n)) (productAt f m (s * n) m (k * n)) k
       (λ p q. ap₂ (mul f) (e .at s p (omega arith) (omega arith) i) (e .at k p (omega arith) (omega arith) (omega arith)))
@@ -35,7 +35,7 @@ module _ (f : Format) (r : ℕ → Refusal) (a : List Float) (n : ℕ) where
   abbrev Both : (ℕ → ℕ → Type 0) → (ℕ → ℕ → Type 0) → ℕ → Type 0
   Both M N c = (s : ℕ) → c ≤ s → s < n → M s c × N s c
 
-  module _ {M N : ℕ → ℕ → Type 0} {l m : List Float} (p : Part f r a n M l) (q : Part f r a n N m) where
+  module _ {M N : ℕ → ℕ → Type 0} {l m : List Float} (p : Part f a n M l) (q : Part f a n N m) where
     diagonal-same : (c : ℕ) → c < n → M c c → N c c → Same c l m → getD l (c * n + c) nan ≡ getD m (c * n + c) nan
     diagonal-same c h x y e = p .diagonal c h x .root ∙ ap (rootOf f) (left-same e c c (omega arith) (omega arith) h) ∙ sym (q .diagonal c h y .root)
 
@@ -61,15 +61,15 @@ module _ (f : Format) (r : ℕ → Refusal) (a : List Float) (n : ℕ) where
 
   -- ---- so the work stops there
 
-  module _ (small : n ≤ 8) (j : ℕ) (b : BadPivot f r a n j) where
+  module _ (small : n ≤ 8) (j : ℕ) (b : BadPivot f a n j) where
     -- entries that are right in the columns before c, and its own diagonal
-    never : {M : ℕ → ℕ → Type 0} {l : List Float} → Part f r a n M l → M j j → ((k : ℕ) → k < j → (s : ℕ) → k ≤ s → s < n → M s k) → ⊥
+    never : {M : ℕ → ℕ → Type 0} {l : List Float} → Part f a n M l → M j j → ((k : ℕ) → k < j → (s : ℕ) → k ≤ s → s < n → M s k) → ⊥
     never p x w =
         let e = same-to (b .right) p j (omega (arith, b .inside)) (λ k g s h i. (g, w k g s h i)) in
         true≢false (sym (p .diagonal j (b .inside) x .above) ∙ ap aboveZero (sym (left-same e j j (omega arith) (omega arith) (b .inside))) ∙ b .bad)
 
     -- up to column i, before j
-    before : (i : ℕ) {M : ℕ → ℕ → Type 0} {l : List Float} → i < j → Part f r a n M l → ((k : ℕ) → k < i → (s : ℕ) → k ≤ s → s < n → M s k) → Same i (b .entries) l
+    before : (i : ℕ) {M : ℕ → ℕ → Type 0} {l : List Float} → i < j → Part f a n M l → ((k : ℕ) → k < i → (s : ℕ) → k ≤ s → s < n → M s k) → Same i (b .entries) l
     before i g p w = same-to (b .right) p i (omega (arith, b .inside)) (λ k h s u v. (omega arith, w k h s u v))
 
     stops : (q : Refusal) → Stopped f r a n q → q ≡ r j
@@ -96,13 +96,13 @@ module _ (f : Format) (r : ℕ → Refusal) (a : List Float) (n : ℕ) where
         go (refused q) e = ap refused (stops q (is-stopped f r a n small q e))
 
   -- THE ROW TOLD IS THAT OF THE FIRST BAD PIVOT, where r tells rows apart and isn't 9
-  pub row-exactly : n ≤ 8 → (j : ℕ) → ((i : ℕ) → r i ≡ r j → i ≡ j) → (RANGE ≡ r j → ⊥) → (worked (factorOf f r a n) ≡ refused (r j)) ↔ BadPivot f r a n j
+  pub row-exactly : n ≤ 8 → (j : ℕ) → ((i : ℕ) → r i ≡ r j → i ≡ j) → (RANGE ≡ r j → ⊥) → (worked (factorOf f r a n) ≡ refused (r j)) ↔ BadPivot f a n j
   row-exactly small j own apart = (λ e. why (r j) (is-stopped f r a n small (r j) e) refl, λ b. is-refused small j b)
     where
       -- the columns before i
-      before-it : {i : ℕ} {l : List Float} → Part f r a n (Was f r a n i i) l → Part f r a n (λ (s k : ℕ). k < i) l
+      before-it : {i : ℕ} {l : List Float} → Part f a n (Was i i) l → Part f a n (λ (s k : ℕ). k < i) l
       before-it p = record { long = p .long; diagonal = λ k g w. p .diagonal k g (inl w); lower = λ s k g h w. p .lower s k g h (inl w); upper = p .upper; rest = p .rest }
 
-      why : (q : Refusal) → Stopped f r a n q → q ≡ r j → BadPivot f r a n j
-      why q (at-pivot i l h p t) e = subst (BadPivot f r a n) (own i e) (record { entries = l; inside = h; right = before-it p; bad = t })
+      why : (q : Refusal) → Stopped f r a n q → q ≡ r j → BadPivot f a n j
+      why q (at-pivot i l h p t) e = subst (BadPivot f a n) (own i e) (record { entries = l; inside = h; right = before-it p; bad = t })
       why q (at-entry i k l h g p t) e = absurd (apart e)

@@ -12,25 +12,25 @@ use Rattle.matrix.specs.declared.factor.Pivots.{Pivots}
 use Rattle.matrix.specs.declared.factor.Pivots.the-variants.{OfP, OfS}
 use Rattle.matrix.specs.declared.factor.Factor.{Factor}
 
--- A of n rows; a bad pivot is refused by r with its row
-module _ (f : Format) (r : ℕ → Refusal) (a : List Float) (n : ℕ) where
-  -- A[i][j] minus L[i][k]·L[j][k] for k below j in turn
-  abbrev pub leftOf : ℕ → ℕ → List Float → Float
-  leftOf i j l = lessOf f (getD a (i * n + j) nan) l (i * n) (j * n) j
+-- A of n rows: A[i][j] minus L[i][k]·L[j][k] for k below j in turn
+abbrev pub leftOf : Format → List Float → ℕ → ℕ → ℕ → List Float → Float
+leftOf f a n i j l = lessOf f (getD a (i * n + j) nan) l (i * n) (j * n) j
 
+-- a bad pivot is refused by r with its row
+module _ (f : Format) (r : ℕ → Refusal) (a : List Float) (n : ℕ) where
   -- for i above j: that, divided by L[j][j], which is d; m entries from row i down
   unfoldable pub rowsFrom : ℕ → Float → ℕ → ℕ → List Float → Work (List Float)
   rowsFrom j d zero i l = made l
   rowsFrom j d (suc m) i l =
-      let e = div f (leftOf i j l) d in
+      let e = div f (leftOf f a n i j l) d in
       check (numbers (e ∷ [])) (rowsFrom j d m (i + 1) (set l (i * n + j) e))
 
   -- column j: the pivot, whose root is L[j][j], then the entries under it
   unfoldable pub columnOf : ℕ → List Float → Work (List Float)
   unfolding rowsFrom
   columnOf j l =
-      let d = rootOf f (leftOf j j l) in
-      check (pivot (r j) (leftOf j j l)) (rowsFrom j d (n - (j + 1)) (j + 1) (set l (j * n + j) d))
+      let d = rootOf f (leftOf f a n j j l) in
+      check (pivot (r j) (leftOf f a n j j l)) (rowsFrom j d (n - (j + 1)) (j + 1) (set l (j * n + j) d))
 
   -- m columns from column j on
   unfoldable pub columnsFrom : ℕ → ℕ → List Float → Work (List Float)

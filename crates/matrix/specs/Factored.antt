@@ -7,20 +7,19 @@ use mathlib.Core.List.{List}
 use lib.ListN.{length, getD}
 use lib.Ieee.{Float, Format, nan, div}
 use lib.Ieee.Scale.{finite}
-use Rattle.floats.specs.Refusal.{Refusal}
 use Rattle.floats.specs.Numbers.{plusZero, aboveZero}
 use Rattle.root.specs.Definition.{rootOf}
 use Rattle.matrix.specs.Factor.{leftOf}
 
-module _ (f : Format) (r : ℕ → Refusal) (a : List Float) (n : ℕ) where
+module _ (f : Format) (a : List Float) (n : ℕ) where
   -- the diagonal entry of column j is right, by the entries before it
   pub record Diag (l : List Float) (j : ℕ) : Type 0 where
-    pub above : aboveZero (leftOf f r a n j j l) ≡ true
-    pub root : getD l (j * n + j) nan ≡ rootOf f (leftOf f r a n j j l)
+    pub above : aboveZero (leftOf f a n j j l) ≡ true
+    pub root : getD l (j * n + j) nan ≡ rootOf f (leftOf f a n j j l)
 
   -- the entry of row i and column j, under the diagonal
   pub record Low (l : List Float) (i j : ℕ) : Type 0 where
-    pub quotient : getD l (i * n + j) nan ≡ div f (leftOf f r a n i j l) (getD l (j * n + j) nan)
+    pub quotient : getD l (i * n + j) nan ≡ div f (leftOf f a n i j l) (getD l (j * n + j) nan)
     pub bounded : finite (getD l (i * n + j) nan) ≡ true
 
   -- those entries on and under the diagonal that are made are right; above the diagonal and past n·n stands +0
@@ -35,9 +34,9 @@ module _ (f : Format) (r : ℕ → Refusal) (a : List Float) (n : ℕ) where
   abbrev pub Lower : List Float → Type 0
   Lower l = Part (λ (i j : ℕ). Unit {0}) l
 
-  -- the pivot of row j isn't finite or isn't above 0, worked out from entries of which those in the columns before j are right, down to the last row, and so their pivots are above 0
+  -- the first j columns are right, so their pivots are good, and the pivot of row j, worked out from them, isn't finite or isn't above 0
   pub record BadPivot (j : ℕ) : Type 0 where
     pub entries : List Float
     pub inside : j < n
     pub right : Part (λ (i k : ℕ). k < j) entries
-    pub bad : aboveZero (leftOf f r a n j j entries) ≡ false
+    pub bad : aboveZero (leftOf f a n j j entries) ≡ false
