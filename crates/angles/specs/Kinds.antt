@@ -28,7 +28,7 @@ turned f (Turn h) d = wrapStep f d h
 abbrev pub throughOf : Format → Kind → Float → Float
 throughOf f k d = turned f (k .residual) d
 
--- the number that a kind brings in: its half-turn; of a plain one +0, which nothing refuses, so that each kind of a list keeps its place
+-- the number that a kind brings in: its half-turn; of a plain one +0, which the search passes, so that each kind of a list keeps its place
 abbrev pub half : Residual → Float
 half Plain = plusZero
 half (Turn h) = h

@@ -9,7 +9,8 @@ use lib.ListN.{length, take}
 use lib.Ieee.{Float, Format, add}
 use Rattle.floats.specs.declared.Slice.{Slice}
 use Rattle.floats.specs.declared.Slice.the-variants.{State, Covariance, Noise, Lone}
-use Rattle.floats.specs.Refusal.{Refusal, NUMBER, PARAM, SIZE, STAGE, STALE, KIND, PIVOT, INNOV, badLone, number, placeOf, verdict, taken, Outcome, refusal}
+use Rattle.floats.specs.declared.Verdict.{Verdict}
+use Rattle.floats.specs.Refusal.{Refusal, NUMBER, PARAM, SIZE, STAGE, STALE, KIND, PIVOT, INNOV, RANGE, badLone, verdict, taken, Outcome, refusal}
 use Rattle.floats.specs.Search.{Input}
 use Rattle.floats.specs.Numbers.{plusZero, zeros, allFinite}
 use Rattle.floats.specs.Fronts.{front, over}
@@ -26,19 +27,19 @@ use Rattle.filter.specs.declared.Filter.{Filter}
 use Rattle.filter.specs.Asked.{by-params}
 use Rattle.filter.specs.Filters.{isShut, seen}
 use Rattle.filter.specs.Calls.{Call, writing, setting, closing, set-kind, open-prediction, open-correction, close-prediction, close-correction, close-correction-flat, fits, halves, asks, plan, weightedFrom, flatFrom}
-use Rattle.filter.specs.Steps.{step, paramsRead, staleRead}
+use Rattle.filter.specs.Steps.{Reply, Stepped, step, answered, paramsRead, staleRead}
 use Rattle.filter.specs.New.{emptySheet, emptyTrack, empty, Start, from, newAsks, startAsks, newSheet, newTrack, newAnswer}
 use Rattle.filter.specs.Point.{pointAsks, pointRefusal, pointOf}
-use Rattle.demands.specs.Rows.{Some, NotFinite, NotAbove, Below, OutOfRange, FirstIn, FirstBad, searches, InTurn, BadTurn, FirstTurn, IsTurn, IsFlat, Measurable, UnfitTurn, Fails, FirstFails, Cause, Applies, Due, Free, ByStep, Neither}
+use Rattle.demands.specs.Rows.{Some, NotFinite, NotAbove, Below, OutOfRange, FirstIn, FirstBad, searches, Ascending, BadTurn, FirstBadTurn, IsTurn, IsOpen, IsClose, IsCorrection, IsFlat, Measurable, UnfitTurn, Fails, FirstFails, Cause, Applies, Due, Free, ByStep, Placed, Neither}
 use Rattle.demands.specs.Listed.{listedAtOpen, listedAtPrediction, listedAtHead, listedAtCorrection}
 use Rattle.demands.specs.Runs.{told}
 use Rattle.demands.specs.Sound.{Sound, Tidy, Reached, Yielded, handedOut, Each}
 use Rattle.demands.proofs.Exactly.{exactly, taken-exactly, new-exactly, new-taken, new-track-exactly, new-track-taken, new-sheet-exactly, new-sheet-taken, point-exactly, point-taken, wrap-exactly, wrap-taken, wrap-refused, root-exactly, root-taken, kind-exactly, kind-taken, one-of, ends-so, refused-unwritten, refused-values, new-refused, new-track-refused, new-sheet-refused, point-refused}
-use Rattle.demands.proofs.Places.{some-bad, one-bad, turn-at, told-by}
-use Rattle.demands.proofs.Pivots.{prediction-pivot, correction-opened-pivot, correction-closed-pivot, flat-correction-pivot}
+use Rattle.demands.proofs.Places.{some-bad, one-bad, turn-at, placed-so}
+use Rattle.demands.proofs.Pivots.{by-own-steps, prediction-pivot, correction-opened-pivot, correction-closed-pivot, flat-correction-pivot}
 use Rattle.demands.proofs.Listed.{open-prediction-lists, open-correction-lists, close-prediction-lists, close-correction-lists, close-correction-flat-lists}
-use Rattle.demands.proofs.Table.{searches-so, in-turn, kind-checked, steps-give, stage-exactly, states-first, kind-only, never-stale, never-param}
-use Rattle.demands.proofs.Turned.{turned-away-exactly}
+use Rattle.demands.proofs.Table.{searches-so, ascending, kind-checked, steps-give, stage-exactly, states-first, kind-only, never-stale, never-param}
+use Rattle.demands.proofs.Turned.{turned-away-exactly, half-turn-exactly}
 use Rattle.demands.proofs.Sound.{sound, tidy, all-handed-finite}
 use Rattle.demands.proofs.Opening.{opening-prediction, opening-correction}
 use Rattle.demands.proofs.Unread.{kinds-unread}
@@ -129,12 +130,12 @@ module _ (f : Format) where
   pub point-taken-when : (l : List Float) (n k : ℕ) → (pointRefusal f l n k ≡ taken) ↔ ((d : Cause) → Applies f (pointAsks f l n k) [] d → ⊥)
   point-taken-when = point-taken f
 
-  -- of the wrap: 56 at 0 exactly when d or h isn't finite, 6 exactly when both are and h isn't above 0 or 2h isn't finite, and no other number,
+  -- of the wrap: 56 at 0 exactly when d or h isn't finite, 6 exactly when both are finite and h isn't above 0 or 2h isn't finite, and no other number,
   pub wrap-exactly-when : (d h : Float) (r : Refusal)
-      → (refusal (wrapOf f d h) ≡ verdict r) ↔ (((r ≡ badLone) × (NotFinite d ⊎ NotFinite h)) ⊎ ((r ≡ PARAM) × (NotFinite d ⊎ NotFinite h → ⊥) × (NotAbove h ⊎ NotFinite (add f h h))))
+      → (wrapped (wrapOf f d h) .refusal ≡ verdict r) ↔ (((r ≡ badLone) × (NotFinite d ⊎ NotFinite h)) ⊎ ((r ≡ PARAM) × (NotFinite d ⊎ NotFinite h → ⊥) × (NotAbove h ⊎ NotFinite (add f h h))))
   wrap-exactly-when = wrap-exactly f
 
-  pub wrap-taken-when : (d h : Float) → (refusal (wrapOf f d h) ≡ taken) ↔ ((NotFinite d ⊎ NotFinite h → ⊥) × (NotAbove h ⊎ NotFinite (add f h h) → ⊥))
+  pub wrap-taken-when : (d h : Float) → (wrapped (wrapOf f d h) .refusal ≡ taken) ↔ ((NotFinite d ⊎ NotFinite h → ⊥) × (NotAbove h ⊎ NotFinite (add f h h) → ⊥))
   wrap-taken-when = wrap-taken f
 
   -- a refused wrap gives +0,
@@ -159,6 +160,13 @@ module _ (f : Format) where
   pub kind-set : (s : Filter) (i : ℕ) (k : Kind) → isShut (s .track .stage) ≡ true → (1 ≤ s .sheet .n) × (s .sheet .n ≤ 8) → i < s .sheet .n → step f s (writing (set-kind i k)) .reply .refusal ≡ refusal (kindOf f k)
   kind-set = kind-checked f
 
+  -- The code hands a step's filter, number and place back as they are, and so the number and place of a reading of values.
+  pub handed-back : (t : Stepped) → (answered t .filter ≡ t .filter) × (answered t .refusal ≡ t .reply .refusal)
+  handed-back t = (refl, refl)
+
+  pub values-handed-back : (r : Reply) → (paramsRead r .refusal ≡ r .refusal) × (staleRead r .refusal ≡ r .refusal)
+  values-handed-back r = (refl, refl)
+
   -- Each of these ends so too, with 0 at place 0 or with a refusal's number at its place, being `refusal` of an outcome.
   pub so-do-the-others : {A : Type 0} (o : Outcome A) → (refusal o ≡ taken) ⊎ ((r : Refusal) × (refusal o ≡ verdict r))
   so-do-the-others = one-of
@@ -181,7 +189,7 @@ module _ (f : Format) where
   pub flat-correction-never : (s : Filter) (m : ℕ) (z r observed : List Float) → let k = step f s (closing (close-correction-flat m z r observed)) .reply .refusal in (k ≢ verdict STALE) × (k ≢ verdict PARAM)
   flat-correction-never s m z r observed = let c = closing (close-correction-flat m z r observed) in (never-stale f s c refl, never-param f s c refl)
 
-  -- ---- places
+  -- ---- places (document 02, A5)
 
   -- 51 to 56 tell the place of the first number that isn't finite, of the first slice that has one (`FirstBad`): there is one where a number isn't finite, and one at the most;
   pub some-first-bad : (l : List Input) → Some (λ (x : Input). Some NotFinite (x .numbers)) l ↔ ((s : Slice) × (i : ℕ) × FirstBad s i l)
@@ -194,25 +202,36 @@ module _ (f : Format) where
   pub searched-by : (s : Filter) (c : Call) → asks s c .inputs ≡ searches (s .sheet .n) c
   searched-by = searches-so
 
-  -- That is slice after slice in the order of their numbers, and so is New (of a pair it takes the second start after the first);
-  pub searched-in-turn : (s : Filter) (c : Call) → InTurn 50 (asks s c .inputs)
-  searched-in-turn s c = rw (searches-so s c) (in-turn (s .sheet .n) c)
+  -- That is slice after slice in the order of their numbers, and so does New search (of a pair it takes the second start right after the first);
+  pub searched-in-turn : (s : Filter) (c : Call) → Ascending 50 (asks s c .inputs)
+  searched-in-turn s c = rw (searches-so s c) (ascending (s .sheet .n) c)
 
-  pub new-searched-in-turn : (n : ℕ) (x p q : List Float) (params : Params) → InTurn 50 (newAsks n (from x p ∷ []) q params .inputs)
+  pub new-searched-in-turn : (n : ℕ) (x p q : List Float) (params : Params) → Ascending 50 (newAsks n (from x p ∷ []) q params .inputs)
   new-searched-in-turn n x p q params = (omega arith, (omega arith, (omega arith, (omega arith, tt))))
 
-  -- and the first bad half-turn is told at the index of its own kind, the first that is a turn by a number that isn't finite: a plain one keeps its place.
-  pub half-turn-place : (ks : List Kind) (i : ℕ) → FirstIn (halves ks) i ↔ FirstTurn ks i
+  -- and the first bad half-turn is told at the index of its own kind, the first that is a turn by a number that isn't finite: a plain one keeps its place. So a weighted close gives 56 at i exactly when a correction is open, sizes, lengths and lent numbers do, and the first such kind of its first m is that at i.
+  pub half-turn-place : (ks : List Kind) (i : ℕ) → FirstIn (halves ks) i ↔ FirstBadTurn ks i
   half-turn-place = turn-at
 
-  -- 7 tells the row of the first bad pivot: the columns before it are right, so their pivots are good, and it isn't finite or isn't above 0 (`BadPivot`). An open gives it exactly when nothing is refused before its steps (`Free`) and row j of P has that pivot; an open correction has to be stale, as it draws only then;
+  pub half-turn-when : (s : Filter) (m : ℕ) (z r : List Float) (kinds : List Kind) (observed : List Float) (i : ℕ)
+      → (step f s (closing (close-correction m z r kinds observed)) .reply .refusal ≡ verdict (NUMBER Lone i)) ↔ (Measurable s m z r observed × FirstBadTurn (take m kinds) i)
+  half-turn-when = half-turn-exactly f
+
+  -- 7 is given by the opens alone, and 8 by the closes of a correction alone.
+  pub pivot-by-opens-alone : (s : Filter) (c : Call) (j : ℕ) → step f s c .reply .refusal ≡ verdict (PIVOT j) → IsOpen c
+  pivot-by-opens-alone s c j = by-own-steps f s c (PIVOT j) (omega arith) (omega arith)
+
+  pub innov-by-corrections-alone : (s : Filter) (c : Call) (j : ℕ) → step f s c .reply .refusal ≡ verdict (INNOV j) → IsCorrection c
+  innov-by-corrections-alone s c j = by-own-steps f s c (INNOV j) (omega arith) (omega arith)
+
+  -- 7 tells the row of the first bad pivot: the columns before it are right, so their pivots are good, and it isn't finite or isn't above 0 (`BadPivot`). An open gives it exactly when nothing is refused before its steps (`Free`) and row j of P is the first whose pivot is bad; an open correction has to be stale, as it draws only then;
   pub pivot-at-open-prediction : (s : Filter) (b : List Float) (j : ℕ) → let c = setting (open-prediction b) in (step f s c .reply .refusal ≡ verdict (PIVOT j)) ↔ (Free f s c × BadPivot f (s .track .p) (s .sheet .n) j)
   pivot-at-open-prediction = prediction-pivot f
 
   pub pivot-at-open-correction : (s : Filter) (b : List Float) (j : ℕ) → let c = setting (open-correction b) in (step f s c .reply .refusal ≡ verdict (PIVOT j)) ↔ (Free f s c × ((s .track .stale ≡ true) × BadPivot f (s .track .p) (s .sheet .n) j))
   pivot-at-open-correction = correction-opened-pivot f
 
-  -- 8 the same of S, by either close, once z mean, S, x mean and cross covariance are finite;
+  -- 8 the same of S, by either close of a correction, once z mean, S, x mean and cross covariance are finite;
   pub pivot-at-correction : (s : Filter) (m : ℕ) (z r : List Float) (kinds : List Kind) (observed : List Float) (j : ℕ) → let c = closing (close-correction m z r kinds observed) in let h = weightedFrom f (seen s) m z r kinds observed in
       (step f s c .reply .refusal ≡ verdict (INNOV j)) ↔ (Free f s c × ((Some Fails (listedAtHead f h) → ⊥) × BadPivot f (h .s) m j))
   pivot-at-correction = correction-closed-pivot f
@@ -221,9 +240,9 @@ module _ (f : Format) where
       (step f s c .reply .refusal ≡ verdict (INNOV j)) ↔ (Free f s c × ((Some Fails (listedAtHead f h) → ⊥) × BadPivot f (h .s) m j))
   pivot-at-flat-correction = flat-correction-pivot f
 
-  -- and every other refusal tells place 0.
-  pub no-other-place : (r : Refusal) → placeOf r ≢ 0 → (50 < number r) ⊎ ((number r ≡ 7) ⊎ (number r ≡ 8))
-  no-other-place = told-by
+  -- and all other answers tell place 0, since each is 0 at place 0 or a refusal's number at its place (`a-result-or-a-refusal`, here and in Pairs, and `so-do-the-others`).
+  pub no-other-place : (v : Verdict) → (v ≡ taken) ⊎ ((r : Refusal) × (v ≡ verdict r)) → Placed v
+  no-other-place = placed-so
 
   -- ---- the steps' own numbers: the first result that fails, of those that document 01 lists, in its order
 
@@ -248,9 +267,13 @@ module _ (f : Format) where
   pub listed-at-flat-correction : (s : Filter) (m : ℕ) (z r observed : List Float) → planned (plan f s (closing (close-correction-flat m z r observed))) ≡ listedAtCorrection f (flatFrom f s m z r observed)
   listed-at-flat-correction = close-correction-flat-lists f
 
-  -- Steps give 56 at 0, 7, 8 and 9 alone;
-  pub steps-give-their-own : (s : Filter) (c : Call) (r : Refusal) → FirstFails r (planned (plan f (seen s) c)) → ByStep r
+  -- The steps of an open give 7 and 9, and 56 at 0 for an N without a root; those of a close of a correction 8 and 9, of the close of a prediction 9; other calls give nothing by steps;
+  pub steps-give-their-own : (s : Filter) (c : Call) (r : Refusal) → FirstFails r (planned (plan f (seen s) c)) → ByStep c r
   steps-give-their-own = steps-give f
+
+  -- so 9 is given by the opens and closes alone;
+  pub range-by-steps-alone : (s : Filter) (c : Call) → step f s c .reply .refusal ≡ verdict RANGE → IsOpen c ⊎ IsClose c
+  range-by-steps-alone s c = by-own-steps f s c RANGE (omega arith) (omega arith)
 
   -- and opening gives none of 51 to 56 and not 6, on any filter that the demands speak of.
   pub opening-prediction-never : {s : Filter} → Yielded f s → (b : List Float) → Neither (step f s (setting (open-prediction b)) .reply .refusal .number)

@@ -16,9 +16,9 @@ use Rattle.floats.specs.Numbers.{plusZero, zeros}
 use Rattle.floats.specs.Fronts.{front}
 use Rattle.root.specs.Definition.{rootOf, rooted}
 use Rattle.root.specs.Nearest.{Nearest}
-use Rattle.root.specs.Answer.{answer, Asked}
+use Rattle.root.specs.Answer.{outcomeOf, rootOutcome, answer, Asked}
 use Rattle.root.specs.declared.Root.{Root}
-use Rattle.root.proofs.Answers.{nearest-root, asked, asked-only}
+use Rattle.root.proofs.Answers.{nearest-root, outcome-answer, asked, asked-only}
 use Rattle.angles.specs.Wrap.{wrapOf, wrapped}
 use Rattle.angles.specs.Exact.{Wraps}
 use Rattle.angles.specs.Kinds.{plain, throughOf, kindOf}
@@ -72,7 +72,11 @@ cell-before i k n j h l = omega (arith, row-before i k n h)
 pub root-nearest : (f : Format) (x : Float) → T (fits f x) → T (rooted x) → Nearest f x (rootOf f x)
 root-nearest = nearest-root
 
--- and for every f64 the answer is what document 01 asks, and nothing else is
+-- the case of the enum with that outcome is `answer`,
+pub root-answer : (x : Float) → outcomeOf (answer x) ≡ rootOutcome binary64 x
+root-answer = outcome-answer
+
+-- and for every f64 it is what document 01 asks, and nothing else is
 pub root-asked : (x : Float) → T (fits binary64 x) → Asked x (answer x)
 root-asked = asked
 

@@ -101,7 +101,7 @@ nth-rank (met r) h g = absurd (omega arith)
 same-rank : (c d : Cause) → rank d < 7 → rank d ≢ 4 → rank c ≡ rank d → c ≡ d
 same-rank c d h g e = sym (nth-rank c (omega arith) (λ z. g (sym e ∙ z))) ∙ ap nth e ∙ nth-rank d h g
 
-of-search : (c : Cause) → rank c ≡ 4 → (s : Slice) × (i : ℕ) × (c ≡ Row.number s i)
+pub of-search : (c : Cause) → rank c ≡ 4 → (s : Slice) × (i : ℕ) × (c ≡ Row.number s i)
 of-search stage e = absurd (omega arith)
 of-search size e = absurd (omega arith)
 of-search short e = absurd (omega arith)

@@ -6,7 +6,7 @@ use mathlib.Core.List.{List, [], _∷_, _++_}
 use mathlib.Core.Logic.{_↔_, inr, ⊎-elim}
 use native.Mathlib.Omega.{arith}
 use lib.Ieee.{Float, Format}
-use Rattle.floats.specs.Refusal.{Refusal, RANGE, PIVOT, INNOV, number, placeOf, verdict}
+use Rattle.floats.specs.Refusal.{Refusal, RANGE, PIVOT, INNOV, number, verdict}
 use Rattle.floats.proofs.Refusals.{slice-above}
 use Rattle.angles.specs.declared.Kind.{Kind}
 use Rattle.matrix.specs.Results.{Result, refusalOf, results, planned}
@@ -21,13 +21,13 @@ use Rattle.filter.specs.Asked.{Size}
 use Rattle.filter.specs.Filters.{seen}
 use Rattle.filter.specs.Calls.{CloseCall, Call, setting, closing, open-prediction, open-correction, close-correction, close-correction-flat, asks, plan, weightedFrom, flatFrom}
 use Rattle.filter.specs.Steps.{step}
-use Rattle.demands.specs.Rows.{Some, here, there, Fails, FirstFails, now, later, Cause, stage, size, short, stale, kind, param, met, gives, Applies, rank, Free}
+use Rattle.demands.specs.Rows.{Some, here, there, Fails, FirstFails, now, later, Cause, stage, size, short, stale, kind, param, met, gives, Applies, rank, Free, ByStep}
 use Rattle.demands.specs.Rows as Row
 use Rattle.demands.specs.Listed.{listedAtPoints, listedAtOpen, listedAtHead, listedAtGain, listedAtCorrection}
 use Rattle.demands.proofs.Rows.{two-ways, none, parted}
 use Rattle.demands.proofs.Exactly.{first-words, first-tests, no-first, exactly}
 use Rattle.demands.proofs.Listed.{open-prediction-lists, open-correction-lists, close-correction-lists, close-correction-flat-lists}
-use Rattle.demands.proofs.Table.{regular}
+use Rattle.demands.proofs.Table.{regular, steps-give}
 
 -- none of these is refused by r
 abbrev Others : Refusal → List Result → Type 0
@@ -75,7 +75,7 @@ module _ (f : Format) where
   open-pivot : (n j : ℕ) (x p : List Float) (scale : Float) → n ≤ 8 → FirstFails (PIVOT j) (listedAtOpen f n x p scale) ↔ BadPivot f p n j
   open-pivot n j x p scale small =
       let k = behind (PIVOT j) (results (factorOf f PIVOT p n)) (listedAtPoints f n x p scale) (λ e. omega (arith, ap number e), (λ e. omega (arith, ap number e), tt)) in
-      let w = by-factor PIVOT p n j small (λ i e. ap placeOf e) (λ e. omega (arith, ap number e)) in
+      let w = by-factor PIVOT p n j small (λ i e. ap (λ (r : Refusal). verdict r .place) e) (λ e. omega (arith, ap number e)) in
       (λ v. w .0 (k .0 v), λ b. k .1 (w .1 b))
 
   correction-pivot : (h : Head) (j : ℕ) → h .m ≤ 8 → FirstFails (INNOV j) (listedAtCorrection f h) ↔ ((Some Fails (listedAtHead f h) → ⊥) × BadPivot f (h .s) (h .m) j)
@@ -83,13 +83,13 @@ module _ (f : Format) where
       let ranges : RANGE ≡ INNOV j → ⊥ = λ e. omega (arith, ap number e) in
       let a = before (INNOV j) (listedAtHead f h) (results (factorOf f INNOV (h .s) (h .m)) ++ listedAtGain f h) (ranges, (ranges, (ranges, (ranges, tt)))) in
       let k = behind (INNOV j) (results (factorOf f INNOV (h .s) (h .m))) (listedAtGain f h) (ranges, (ranges, (ranges, (ranges, (ranges, tt))))) in
-      let w = by-factor INNOV (h .s) (h .m) j small (λ i e. ap placeOf e) ranges in
+      let w = by-factor INNOV (h .s) (h .m) j small (λ i e. ap (λ (r : Refusal). verdict r .place) e) ranges in
       (λ v. let u = a .0 v in (u .0, w .0 (k .0 (u .1))), λ b. a .1 (b .0, k .1 (w .1 (b .1))))
 
 -- ---- by calls
 
--- a row that gives 7 or 8 is one that the steps meet
-of-steps : (r : Refusal) → 6 < number r → number r < 9 → (c : Cause) → gives c ≡ r → c ≡ met r
+-- a row that gives 7, 8 or 9 is one that the steps meet
+of-steps : (r : Refusal) → 6 < number r → number r < 10 → (c : Cause) → gives c ≡ r → c ≡ met r
 of-steps r h k stage e = absurd (omega (arith, ap number e))
 of-steps r h k size e = absurd (omega (arith, ap number e))
 of-steps r h k short e = absurd (omega (arith, ap number e))
@@ -100,8 +100,8 @@ of-steps r h k param e = absurd (omega (arith, ap number e))
 of-steps r h k (met q) e = ap met e
 
 module _ (f : Format) (s : Filter) where
-  -- 7 and 8 are given just where nothing is refused before the steps and the first result that fails gives them, whatever B says of that
-  met-exactly : (c : Call) (r : Refusal) → 6 < number r → number r < 9 → {B : Type 0} → (Free f s c → FirstFails r (planned (plan f (seen s) c)) ↔ B) → (step f s c .reply .refusal ≡ verdict r) ↔ (Free f s c × B)
+  -- these are given just where nothing is refused before the steps and the first result that fails gives them, whatever B says of that
+  met-exactly : (c : Call) (r : Refusal) → 6 < number r → number r < 10 → {B : Type 0} → (Free f s c → FirstFails r (planned (plan f (seen s) c)) ↔ B) → (step f s c .reply .refusal ≡ verdict r) ↔ (Free f s c × B)
   met-exactly c r h k {B} so = (to, λ w. exactly f s c r .1 (record { cause = met r; gives-it = refl; applies = so (w .0) .1 (w .1); no-earlier = w .0 }))
     where
       to : step f s c .reply .refusal ≡ verdict r → Free f s c × B
@@ -110,6 +110,10 @@ module _ (f : Format) (s : Filter) where
           let m = of-steps r h k (d .cause) (d .gives-it) in
           let free : Free f s c = λ b l x. d .no-earlier b (omega (arith, ap rank m)) x in
           (free, so free .0 (subst (Applies f (asks (seen s) c) (planned (plan f (seen s) c))) m (d .applies)))
+
+  -- so by a call whose steps can give them
+  pub by-own-steps : (c : Call) (r : Refusal) → 6 < number r → number r < 10 → step f s c .reply .refusal ≡ verdict r → ByStep c r
+  by-own-steps c r h k e = steps-give f s c r (met-exactly c r h k (λ u. (λ w. w, λ w. w)) .0 e .1)
 
   states-small : (c : Call) → Free f s c → s .sheet .n ≤ 8
   states-small c u = ⊎-elim (λ h. absurd (u size (omega arith) (rw (regular f (seen s) c .states) (here (inr h))))) (λ h. h) (split 8 (s .sheet .n))

@@ -3,21 +3,22 @@ use Prim.Native.Nat.{ℕ, zero, suc, _+_, _<_}
 use mathlib.Core.Path.{_≡_, refl, sym, ap, _∙_}
 use mathlib.Core.Bool.{Bool, true, false}
 use mathlib.Core.List.{List, [], _∷_}
-use mathlib.Core.Logic.{_↔_, _≢_, _⊎_, inl, inr}
+use mathlib.Core.Logic.{_↔_, _⊎_, inl, inr, ⊎-elim}
 use native.Mathlib.Omega.{arith}
 use lib.ListN.{length, getD}
 use lib.Ieee.{Float, nan}
 use lib.Ieee.Scale.{finite}
 use Rattle.floats.specs.declared.Slice.{Slice}
-use Rattle.floats.specs.Refusal.{Refusal, SIZE, SHORT, STAGE, STALE, NUMBER, PARAM, PIVOT, INNOV, RANGE, KIND, number, placeOf, Outcome, refused, accepted, unless, onward, nothing}
+use Rattle.floats.specs.declared.Verdict.{Verdict}
+use Rattle.floats.specs.Refusal.{Refusal, SIZE, SHORT, STAGE, STALE, NUMBER, PARAM, PIVOT, INNOV, RANGE, KIND, verdict, taken, Outcome, refused, accepted, unless, onward, nothing}
 use Rattle.floats.specs.Numbers.{allFinite}
 use Rattle.floats.specs.Search.{Input, searchedFrom, searched}
-use Rattle.floats.proofs.Refusals.{slice-above, refused-never}
+use Rattle.floats.proofs.Refusals.{refused-never}
 use Rattle.floats.proofs.Search.{none-bad, all-good}
 use Rattle.angles.specs.Kinds.{plain}
 use Rattle.angles.specs.declared.Kind.{Kind}
 use Rattle.filter.specs.Calls.{halves}
-use Rattle.demands.specs.Rows.{Some, here, there, NotFinite, FirstIn, FirstBad, found, further, BadTurn, FirstTurn}
+use Rattle.demands.specs.Rows.{Some, here, there, NotFinite, FirstIn, FirstBad, found, further, BadTurn, FirstBadTurn, Placed}
 use Rattle.demands.proofs.Rows.{two-ways, itself, fails-where, passes-where, all-finite, bad-turn}
 use Rattle.demands.proofs.Passed.{Pass, finiteIn, searched-finite}
 
@@ -54,7 +55,7 @@ words-slice s i (x ∷ v) (suc p) w =
 
 -- ---- slice after slice
 
-no-some : (v : List Float) → allFinite v ≡ true → Some NotFinite v → ⊥
+pub no-some : (v : List Float) → allFinite v ≡ true → Some NotFinite v → ⊥
 no-some v e = all-finite v .passes e
 
 -- A SEARCH THAT REFUSES DOES SO BY THE FIRST BAD NUMBER
@@ -123,32 +124,35 @@ later-turn : (k : Kind) (ks : List Kind) (i : ℕ) → (BadTurn k → ⊥) → (
 later-turn k ks i n m zero h b = n b
 later-turn k ks i n m (suc j) h b = m j (omega arith) b
 
-half-turns : (ks : List Kind) (i : ℕ) → FirstIn (halves ks) i → FirstTurn ks i
+half-turns : (ks : List Kind) (i : ℕ) → FirstIn (halves ks) i → FirstBadTurn ks i
 half-turns [] i w = absurd (omega (arith, w .inside))
 half-turns (k ∷ ks) zero w = (bad-turn k .fails (w .bad), λ j h. absurd (omega arith))
 half-turns (k ∷ ks) (suc i) w =
     let v = half-turns ks i (record { inside = omega (arith, w .inside); bad = w .bad; before = λ j h b. w .before (suc j) (omega arith) b }) in
     (v .0, later-turn k ks i (λ b. w .before 0 (omega arith) (fails-where (bad-turn k) b)) (v .1))
 
-turns-half : (ks : List Kind) (i : ℕ) → FirstTurn ks i → FirstIn (halves ks) i
+turns-half : (ks : List Kind) (i : ℕ) → FirstBadTurn ks i → FirstIn (halves ks) i
 turns-half [] i w = absurd (bad-turn plain .passes refl (w .0))
 turns-half (k ∷ ks) zero w = first-zero (fails-where (bad-turn k) (w .0))
 turns-half (k ∷ ks) (suc i) w = first-next (passes-where (bad-turn k) (λ b. w .1 0 (omega arith) b)) (turns-half ks i (w .0, λ j h b. w .1 (suc j) (omega arith) b))
 
 -- THE FIRST BAD HALF-TURN is at the index of the first kind that is a turn by a number that isn't finite
-pub turn-at : (ks : List Kind) (i : ℕ) → FirstIn (halves ks) i ↔ FirstTurn ks i
+pub turn-at : (ks : List Kind) (i : ℕ) → FirstIn (halves ks) i ↔ FirstBadTurn ks i
 turn-at ks i = (half-turns ks i, turns-half ks i)
 
 -- ---- the places that are told
 
-pub told-by : (r : Refusal) → placeOf r ≢ 0 → (50 < number r) ⊎ ((number r ≡ 7) ⊎ (number r ≡ 8))
-told-by SIZE h = absurd (h refl)
-told-by SHORT h = absurd (h refl)
-told-by STAGE h = absurd (h refl)
-told-by STALE h = absurd (h refl)
-told-by (NUMBER s i) h = inl (slice-above s)
-told-by PARAM h = absurd (h refl)
-told-by (PIVOT j) h = inr (inl refl)
-told-by (INNOV j) h = inr (inr refl)
-told-by RANGE h = absurd (h refl)
-told-by KIND h = absurd (h refl)
+placed : (r : Refusal) → Placed (verdict r)
+placed SIZE = inl refl
+placed SHORT = inl refl
+placed STAGE = inl refl
+placed STALE = inl refl
+placed (NUMBER s i) = inr (inl (s, refl))
+placed PARAM = inl refl
+placed (PIVOT j) = inr (inr (inl refl))
+placed (INNOV j) = inr (inr (inr refl))
+placed RANGE = inl refl
+placed KIND = inl refl
+
+pub placed-so : (v : Verdict) → (v ≡ taken) ⊎ ((r : Refusal) × (v ≡ verdict r)) → Placed v
+placed-so v w = ⊎-elim (λ e. rw e (inl refl)) (λ q. rw (q .1) (placed (q .0))) w

@@ -3,7 +3,7 @@ use Prim.Native.Nat.{ℕ, _-_, _<_, _≤_}
 use mathlib.Core.Path.{_≡_, refl, sym, _∙_, subst}
 use mathlib.Core.Bool.{Bool, true, false, _&&_, cond}
 use mathlib.Core.List.{List, [], _∷_}
-use mathlib.Core.Logic.{_↔_, _≢_, ⊎-elim}
+use mathlib.Core.Logic.{_↔_, _≢_, inr, ⊎-elim}
 use native.Mathlib.Omega.{arith}
 use lib.Ieee.{Format}
 use lib.Ieee.Scale.{finite}
@@ -23,7 +23,7 @@ use Rattle.filter.specs.Filters.{isShut, seen, Writing, Setting, Closing, Chang
 use Rattle.filter.specs.Calls.{set-x, set-p, set-q, set-params, set-kind, open-prediction, open-correction, close-prediction, close-correction, close-correction-flat, read-x, read-p, read-q, read-points, read-params, read-stale, Call, writing, setting, closing, abandon, reading, fits, asks, Done, closed, plan, weightedFrom, flatFrom}
 use Rattle.filter.specs.Steps.{step}
 use Rattle.filter.proofs.Closing.{predicting}
-use Rattle.demands.specs.Rows.{Some, here, OutOfRange, searches, InTurn, IsTurn, IsFlat, FirstFails, Cause, stage, size, short, stale, kind, param, met, gives, Applies, rank, ByStep}
+use Rattle.demands.specs.Rows.{Some, here, OutOfRange, searches, Ascending, IsTurn, of-prediction, of-correction, of-either, by-weights, by-averages, IsFlat, flat, FirstFails, Cause, stage, size, short, stale, kind, param, met, gives, Applies, rank, ByStep}
 use Rattle.demands.specs.Rows as Row
 use Rattle.demands.specs.Sound.{end, and}
 use Rattle.demands.proofs.Rows.{two-ways, passes-where, none, ranged}
@@ -40,42 +40,42 @@ Own (closing c) d = (u : Closing) × (d ≡ closes u)
 Own abandon d = d ≡ abandons
 Own (reading c) d = d ≡ reads
 
--- a call asks that it fits what is open and that there are 1 to 8 states; no kind has to be plain but in a flat close; its steps give numbers of theirs; and it makes a change of its own sort
+-- a call asks that it fits what is open and that there are 1 to 8 states; no kind has to be plain but in a flat close; its steps give what is theirs; and it makes a change of its own sort
 pub record Regular (f : Format) (s : Filter) (c : Call) : Type 0 where
   pub fitting : asks s c .fits ≡ fits c (s .track .stage)
   pub others : List Size
   pub states : asks s c .sizes ≡ record { value = s .sheet .n; from = 1; to = 8 } ∷ others
   pub only : Some IsTurn (asks s c .plain) → IsFlat c
-  pub met : StepsOwn (planned (plan f s c))
+  pub met : StepsOwn c (planned (plan f s c))
   pub change : Ran (plan f s c) (λ (d : Done). Own c (d .change))
 
-own-either : (t : Bool) {vs : List Result} → StepsOwn vs → StepsOwn (cond t vs [])
-own-either true e = e
-own-either false e = end
+own-either : (c : Call) (t : Bool) {vs : List Result} → StepsOwn c vs → StepsOwn c (cond t vs [])
+own-either c true e = e
+own-either c false e = end
 
 module _ (f : Format) (s : Filter) where
-  lined : {c : Call} {others : List Size} → asks s c .fits ≡ fits c (s .track .stage) → asks s c .sizes ≡ record { value = s .sheet .n; from = 1; to = 8 } ∷ others → (Some IsTurn (asks s c .plain) → IsFlat c) → StepsOwn (planned (plan f s c))
+  lined : {c : Call} {others : List Size} → asks s c .fits ≡ fits c (s .track .stage) → asks s c .sizes ≡ record { value = s .sheet .n; from = 1; to = 8 } ∷ others → (Some IsTurn (asks s c .plain) → IsFlat c) → StepsOwn c (planned (plan f s c))
       → Ran (plan f s c) (λ (d : Done). Own c (d .change)) → Regular f s c
   lined {c} {others} a b k m d = record { fitting = a; others = others; states = b; only = k; met = m; change = d }
 
   pub regular : (c : Call) → Regular f s c
-  regular (writing (set-q v)) = lined refl refl none end (ran-finish _ _ (_, refl))
-  regular (writing (set-params p)) = lined refl refl none end (ran-finish _ _ (_, refl))
-  regular (writing (set-kind i k)) = lined refl refl none end (ran-finish _ _ (_, refl))
-  regular (setting (set-x v)) = lined refl refl none end (ran-finish _ _ (_, refl))
-  regular (setting (set-p v)) = lined refl refl none end (ran-finish _ _ (_, refl))
-  regular (setting (open-prediction b)) = lined refl refl none (rw (open-prediction-lists f s b) (draw-own f (s .sheet .n) _ _ _)) (ran-mapped _ _ (drawing f s) (λ a e. (_, refl)))
-  regular (setting (open-correction b)) = lined refl refl none (rw (open-correction-lists f s b) (own-either (s .track .stale) (draw-own f (s .sheet .n) _ _ _))) (ran-either _ (s .track .stale) _ _ (λ t. ran-mapped _ _ (drawing f s) (λ a e. (_, refl))) (λ t. ran-finish _ _ (_, refl)))
-  regular (closing (close-prediction v)) = lined refl refl none (rw (close-prediction-lists f s v) (and tt (and tt end))) (ran-mapped _ (closed (s .track .«drawn_weights») (front (pointNumbers (s .sheet .n)) v (zeros 136)) false) (predicting f s v) (λ a e. (_, refl)))
-  regular (closing (close-correction m z r kinds observed)) = lined refl refl none (rw (close-correction-lists f s m z r kinds observed) (correct-own f (weightedFrom f s m z r kinds observed))) (ran-mapped _ (closed (s .track .«drawn_weights») (s .track .«drawn_points») true) (applyPlan f (weightedFrom f s m z r kinds observed)) (λ a e. (_, refl)))
-  regular (closing (close-correction-flat m z r observed)) = lined refl refl (λ w. tt) (rw (close-correction-flat-lists f s m z r observed) (correct-own f (flatFrom f s m z r observed))) (ran-mapped _ (closed (s .track .«drawn_weights») (s .track .«drawn_points») true) (applyPlan f (flatFrom f s m z r observed)) (λ a e. (_, refl)))
-  regular abandon = lined refl refl none end (ran-finish _ _ refl)
-  regular (reading (read-x b)) = lined refl refl none end (ran-finish _ _ refl)
-  regular (reading (read-p b)) = lined refl refl none end (ran-finish _ _ refl)
-  regular (reading (read-q b)) = lined refl refl none end (ran-finish _ _ refl)
-  regular (reading (read-points b)) = lined refl refl none end (ran-finish _ _ refl)
-  regular (reading read-params) = lined refl refl none end (ran-finish _ _ refl)
-  regular (reading read-stale) = lined refl refl none end (ran-finish _ _ refl)
+  regular (writing (set-q v)) = lined refl refl (λ w. absurd (none w)) end (ran-finish _ _ (_, refl))
+  regular (writing (set-params p)) = lined refl refl (λ w. absurd (none w)) end (ran-finish _ _ (_, refl))
+  regular (writing (set-kind i k)) = lined refl refl (λ w. absurd (none w)) end (ran-finish _ _ (_, refl))
+  regular (setting (set-x v)) = lined refl refl (λ w. absurd (none w)) end (ran-finish _ _ (_, refl))
+  regular (setting (set-p v)) = lined refl refl (λ w. absurd (none w)) end (ran-finish _ _ (_, refl))
+  regular (setting (open-prediction b)) = lined refl refl (λ w. absurd (none w)) (rw (open-prediction-lists f s b) (draw-own _ f of-prediction (s .sheet .n) _ _ _)) (ran-mapped _ _ (drawing f s) (λ a e. (_, refl)))
+  regular (setting (open-correction b)) = lined refl refl (λ w. absurd (none w)) (rw (open-correction-lists f s b) (own-either _ (s .track .stale) (draw-own _ f of-correction (s .sheet .n) _ _ _))) (ran-either _ (s .track .stale) _ _ (λ t. ran-mapped _ _ (drawing f s) (λ a e. (_, refl))) (λ t. ran-finish _ _ (_, refl)))
+  regular (closing (close-prediction v)) = lined refl refl (λ w. absurd (none w)) (rw (close-prediction-lists f s v) (and (inr of-either) (and (inr of-either) end))) (ran-mapped _ (closed (s .track .«drawn_weights») (front (pointNumbers (s .sheet .n)) v (zeros 136)) false) (predicting f s v) (λ a e. (_, refl)))
+  regular (closing (close-correction m z r kinds observed)) = lined refl refl (λ w. absurd (none w)) (rw (close-correction-lists f s m z r kinds observed) (correct-own _ f of-either by-weights (weightedFrom f s m z r kinds observed))) (ran-mapped _ (closed (s .track .«drawn_weights») (s .track .«drawn_points») true) (applyPlan f (weightedFrom f s m z r kinds observed)) (λ a e. (_, refl)))
+  regular (closing (close-correction-flat m z r observed)) = lined refl refl (λ w. flat) (rw (close-correction-flat-lists f s m z r observed) (correct-own _ f of-either by-averages (flatFrom f s m z r observed))) (ran-mapped _ (closed (s .track .«drawn_weights») (s .track .«drawn_points») true) (applyPlan f (flatFrom f s m z r observed)) (λ a e. (_, refl)))
+  regular abandon = lined refl refl (λ w. absurd (none w)) end (ran-finish _ _ refl)
+  regular (reading (read-x b)) = lined refl refl (λ w. absurd (none w)) end (ran-finish _ _ refl)
+  regular (reading (read-p b)) = lined refl refl (λ w. absurd (none w)) end (ran-finish _ _ refl)
+  regular (reading (read-q b)) = lined refl refl (λ w. absurd (none w)) end (ran-finish _ _ refl)
+  regular (reading (read-points b)) = lined refl refl (λ w. absurd (none w)) end (ran-finish _ _ refl)
+  regular (reading read-params) = lined refl refl (λ w. absurd (none w)) end (ran-finish _ _ refl)
+  regular (reading read-stale) = lined refl refl (λ w. absurd (none w)) end (ran-finish _ _ refl)
 
 -- what a call searches
 pub searches-so : (s : Filter) (c : Call) → asks s c .inputs ≡ searches (s .sheet .n) c
@@ -98,19 +98,19 @@ searches-so s (reading read-params) = refl
 searches-so s (reading read-stale) = refl
 
 -- slice after slice in the order of their numbers
-pub in-turn : (n : ℕ) (c : Call) → InTurn 50 (searches n c)
-in-turn n (writing (set-q v)) = (omega arith, tt)
-in-turn n (writing (set-params p)) = (omega arith, tt)
-in-turn n (writing (set-kind i k)) = (omega arith, tt)
-in-turn n (setting (set-x v)) = (omega arith, tt)
-in-turn n (setting (set-p v)) = (omega arith, tt)
-in-turn n (setting (open-prediction b)) = tt
-in-turn n (setting (open-correction b)) = tt
-in-turn n (closing (close-prediction v)) = (omega arith, tt)
-in-turn n (closing (close-correction m z r kinds observed)) = (omega arith, (omega arith, (omega arith, (omega arith, tt))))
-in-turn n (closing (close-correction-flat m z r observed)) = (omega arith, (omega arith, (omega arith, (omega arith, tt))))
-in-turn n abandon = tt
-in-turn n (reading c) = tt
+pub ascending : (n : ℕ) (c : Call) → Ascending 50 (searches n c)
+ascending n (writing (set-q v)) = (omega arith, tt)
+ascending n (writing (set-params p)) = (omega arith, tt)
+ascending n (writing (set-kind i k)) = (omega arith, tt)
+ascending n (setting (set-x v)) = (omega arith, tt)
+ascending n (setting (set-p v)) = (omega arith, tt)
+ascending n (setting (open-prediction b)) = tt
+ascending n (setting (open-correction b)) = tt
+ascending n (closing (close-prediction v)) = (omega arith, tt)
+ascending n (closing (close-correction m z r kinds observed)) = (omega arith, (omega arith, (omega arith, (omega arith, tt))))
+ascending n (closing (close-correction-flat m z r observed)) = (omega arith, (omega arith, (omega arith, (omega arith, tt))))
+ascending n abandon = tt
+ascending n (reading c) = tt
 
 -- ---- so of every call
 
@@ -134,16 +134,16 @@ module _ (f : Format) (s : Filter) (c : Call) where
   abbrev pub Asked : Cause → Type 0
   Asked = Applies f (asks (seen s) c) results
 
-  -- the steps give 56 at 0, 7, 8 and 9 alone
-  pub steps-give : (r : Refusal) → FirstFails r results → ByStep r
-  steps-give r w = met-by-step (regular f (seen s) c .met) w
+  -- the steps give what is theirs alone
+  pub steps-give : (r : Refusal) → FirstFails r results → ByStep c r
+  steps-give r w = met-by-step c (regular f (seen s) c .met) w
 
   -- the row of r applies, and none before it
   abbrev pub ByRow : Refusal → Type 0
   ByRow r = Asked (row r) × ((d : Cause) → rank d < rank (row r) → Asked d → ⊥)
 
   -- a number that no step gives is given by its row
-  pub by-row : (r : Refusal) → (ByStep r → ⊥) → step f s c .reply .refusal ≡ verdict r → ByRow r
+  pub by-row : (r : Refusal) → (ByStep c r → ⊥) → step f s c .reply .refusal ≡ verdict r → ByRow r
   by-row r n e = let d = exactly f s c r .0 e in go (d .cause) (d .gives-it) (d .applies) (d .no-earlier)
     where
       go : (d : Cause) → gives d ≡ r → Asked d → ((b : Cause) → rank b < rank d → Asked b → ⊥) → ByRow r

@@ -210,7 +210,7 @@ pairStory =
     ∷ ("A4 the second as it was", (by Second (reading (read-points three)), telling 4 [] (int 5) (int 16) true))
     ∷ []
 
--- A5 through the calls, on two states: x = (1, 2), P = 4I, and parameters with kappa = 2, so that N = 4 and the points are x and 2·2 to either side. Numbers past the front of a slice aren't searched. Of (1 2, 2 1) the second pivot is 1 − 2·2, so an open gives 7 there.
+-- A5 through the calls, on two states: x = (1, 2), P = 4I, and parameters with kappa = 2, so that N = 4 and the points are x and 2·2 to either side. Numbers past the front of a slice aren't searched. Of (1 2, 2 1) the second pivot is 1 − 2·2, so an open gives 7 there; of zeros the first is bad, and so would the second be.
 -- A close searches R, observed points, z and half-turns in this order; a plain kind keeps its place among the half-turns, and kinds from m up aren't read. Observed all 1, S is R.
 abbrev pub kappaTwo : Params
 kappaTwo = params (int 1) (int 0) (int 2)
@@ -231,7 +231,7 @@ ten = replicate 10 nan
 abbrev pub drawnTen : List Float
 drawnTen = int 1 ∷ int 2 ∷ int 5 ∷ int 2 ∷ int 1 ∷ int 6 ∷ minus 3 ∷ int 2 ∷ int 1 ∷ minus 2 ∷ []
 
--- k ones; and ten with a NaN at i and an infinity after it, if one comes after it
+-- k ones; and ten with a NaN at i and, where a place comes after it, an infinity there
 abbrev pub ones : ℕ → List Float
 ones k = replicate k (int 1)
 
@@ -255,6 +255,7 @@ abbrev pub placeStory : List (String × (Call × Told))
 placeStory =
     let bad : Residual = Turn nan in
     ("A5 a state", (setting (set-x (two (int 1) nan)), placing 51 1 [] 4 0))
+    ∷ ("A5 the first of two", (setting (set-x (badAt 0)), placing 51 0 [] 4 0))
     ∷ ("A5 a covariance", (setting (set-p (badAt 1)), placing 52 1 [] 4 0))
     ∷ ("A5 a noise", (writing (set-q (badAt 3)), placing 53 3 [] 4 0))
     ∷ ("A5 alpha", (writing (set-params (params (inf false) nan (int 2))), placing 56 0 [] 4 0))
@@ -264,6 +265,8 @@ placeStory =
     ∷ ("A5 past the front", (setting (set-p (flawed ++ (nan ∷ []))), placing 0 0 [] 1 2))
     ∷ ("A5 a pivot of P", (setting (open-prediction ten), placing 7 1 [] 1 2))
     ∷ ("A5 the same by a correction", (setting (open-correction ten), placing 7 1 [] 1 2))
+    ∷ ("A5 P of zeros", (setting (set-p (zeros 4)), placing 0 0 [] 0 0))
+    ∷ ("A5 the first pivot", (setting (open-prediction ten), placing 7 0 [] 0 0))
     ∷ ("A5 P again", (setting (set-p (four (int 4) (int 0) (int 0) (int 4))), placing 0 0 [] 4 0))
     ∷ ("A5 a prediction", (setting (open-prediction ten), placing 0 0 drawnTen 4 0))
     ∷ ("A5 a point", (closing (close-prediction (badAt 7)), placing 54 7 [] 4 0))
@@ -271,15 +274,22 @@ placeStory =
     ∷ ("A5 a correction", (setting (open-correction ten), placing 0 0 drawnTen 4 0))
     ∷ ("A5 R first", (searching (badAt 2) (badAt 0) (badAt 0) (kindsOf bad bad Plain), placing 53 2 [] 4 0))
     ∷ ("A5 points before z", (searching flawed (badAt 4) (badAt 0) (kindsOf bad bad Plain), placing 54 4 [] 4 0))
+    ∷ ("A5 the first of z", (searching flawed (ones 10) (badAt 0) (kindsOf bad bad Plain), placing 55 0 [] 4 0))
     ∷ ("A5 z before half-turns", (searching flawed (ones 10) (badAt 1) (kindsOf bad bad Plain), placing 55 1 [] 4 0))
+    ∷ ("A5 the first of two half-turns", (searching flawed (ones 10) (two (int 1) (int 1)) (kindsOf bad bad Plain), placing 56 0 [] 4 0))
     ∷ ("A5 a plain kind keeps its place", (searching flawed (ones 10) (two (int 1) (int 1)) (kindsOf Plain bad Plain), placing 56 1 [] 4 0))
     ∷ ("A5 half-turns before 6", (searching flawed (ones 10) (two (int 1) (int 1)) (kindsOf (Turn (int 0)) bad Plain), placing 56 1 [] 4 0))
     ∷ ("A5 the last of four", (closing (close-correction 4 (ones 4) (ones 16) (plain ∷ plain ∷ record { residual = Turn (int 0) } ∷ record { residual = Turn (inf false) } ∷ []) (ones 20)), placing 56 3 [] 4 0))
     ∷ ("A5 6 tells no place", (searching flawed (ones 10) (two (int 1) (int 1)) (kindsOf Plain (Turn (int 0)) Plain), placing 6 0 [] 4 0))
     ∷ ("A5 a pivot of S", (searching flawed (ones 10) (two (int 1) (int 1)) (kindsOf Plain Plain bad), placing 8 1 [] 4 0))
+    ∷ ("A5 the first pivot of S", (searching (zeros 4) (ones 10) (two (int 1) (int 1)) (kindsOf Plain Plain bad), placing 8 0 [] 4 0))
     ∷ ("A5 flat, R first", (closing (close-correction-flat 2 (badAt 0) (badAt 3) (badAt 0)), placing 53 3 [] 4 0))
     ∷ ("A5 flat, points before z", (closing (close-correction-flat 2 (badAt 0) flawed (badAt 9)), placing 54 9 [] 4 0))
     ∷ ("A5 flat, a pivot of S", (closing (close-correction-flat 2 (two (int 1) (int 1)) flawed (ones 10)), placing 8 1 [] 4 0))
+    ∷ ("A5 given up again", (abandon, placing 0 0 [] 4 0))
+    ∷ ("A5 the second kind a turn", (writing (set-kind 1 (record { residual = Turn (int 180) })), placing 0 0 [] 4 0))
+    ∷ ("A5 another correction", (setting (open-correction ten), placing 0 0 drawnTen 4 0))
+    ∷ ("A5 10 tells no place", (closing (close-correction-flat 2 (two (int 1) (int 1)) flawed (ones 10)), placing 10 0 [] 4 0))
     ∷ []
 
 -- a refused New, of two states or of a pair, has no states (`refused-new` in Demand1 and Pairs has all of it)
@@ -352,7 +362,7 @@ flatCases = against flatStory (told binary64 at-first (map (λ e. e .1 .0) flatS
 abbrev pub settingCases : List (String × Bool)
 settingCases = against settingStory (told binary64 at-first (map (λ e. e .1 .0) settingStory))
 
--- New with bad numbers in two slices, or in two parameters; those without one fail 6, as kappa = −2 makes N 0
+-- New with bad numbers in two slices or more, or in two parameters; parameters without a bad number fail 6, as kappa = −2 makes N 0
 abbrev pub placeCases : List (String × Bool)
 placeCases =
     let fine = ones 10 in
@@ -362,9 +372,12 @@ placeCases =
     ∷ ("A5 New, Q before parameters", newIs fine fine (badAt 2) (params nan nan nan) 53 2)
     ∷ ("A5 New, beta before kappa", newIs fine fine fine (params (int 1) nan nan) 56 1)
     ∷ ("A5 New, 6", newIs fine fine fine unfit 6 0)
+    ∷ ("A5 New of a pair, the first x before all", newPairIs 2 (badAt 1) (badAt 0) (badAt 0) fine fine unfit 51 1)
     ∷ ("A5 New of a pair, the first P before the second x", newPairIs 2 fine (badAt 2) (badAt 0) fine fine unfit 52 2)
     ∷ ("A5 New of a pair, the second x before its P", newPairIs 2 fine fine (badAt 1) (badAt 0) fine unfit 51 1)
     ∷ ("A5 New of a pair, the second P before Q", newPairIs 2 fine fine fine (badAt 3) (badAt 0) unfit 52 3)
+    ∷ ("A5 New of a pair, Q before parameters", newPairIs 2 fine fine fine fine (badAt 2) (params nan nan nan) 53 2)
+    ∷ ("A5 New of a pair, beta before kappa", newPairIs 2 fine fine fine fine fine (params (int 1) nan nan) 56 1)
     ∷ against placeStory (told binary64 twoStates (map (λ e. e .1 .0) placeStory))
 
 abbrev pub pairCases : List (String × Bool)

@@ -1,4 +1,4 @@
--- The table of refusals in the documents' own words (10 and the places are document 02's; that 3 is wider on a pair is in what a call on a side asks, `pairFits`), and when a number is due. Definitions only.
+-- The table of refusals in the documents' own words (51 to 56, 10 and the places are document 02's; that 3 is wider on a pair is in what a call on a side asks, `pairFits`), and when a number is due. Definitions only.
 use Prim.Native.Nat.{ℕ, _+_, _*_, _<_, _≤_}
 use mathlib.Core.Path.{_≡_}
 use mathlib.Core.Bool.{true, false}
@@ -9,6 +9,7 @@ use lib.Ieee.{Float, nan, Format, lt, add}
 use lib.Ieee.Scale.{finite}
 use Rattle.floats.specs.declared.Slice.{Slice}
 use Rattle.floats.specs.declared.Slice.the-variants.{State, Covariance, Noise, Points, Measurement, Lone}
+use Rattle.floats.specs.declared.Verdict.{Verdict}
 use Rattle.floats.specs.Refusal.{Refusal, SIZE, SHORT, STAGE, STALE, NUMBER, PARAM, PIVOT, INNOV, RANGE, KIND, badLone, sliceNumber}
 use Rattle.floats.specs.Search.{Input, input}
 use Rattle.floats.specs.Numbers.{plusZero, allFinite}
@@ -21,7 +22,7 @@ use Rattle.sigma.specs.Weights.{scaleOf, w0mOf, w0cOf, wiOf}
 use Rattle.filter.specs.declared.Filter.{Filter}
 use Rattle.filter.specs.Filters.{isCorrecting, seen}
 use Rattle.filter.specs.Asked.{Size, Lent, Param, by-params, by-kind, Asks}
-use Rattle.filter.specs.Calls.{Call, writing, setting, closing, abandon, reading, set-x, set-p, set-q, set-params, set-kind, open-prediction, open-correction, close-prediction, close-correction, close-correction-flat, halves, asks, plan}
+use Rattle.filter.specs.Calls.{CloseCall, Call, writing, setting, closing, abandon, reading, set-x, set-p, set-q, set-params, set-kind, open-prediction, open-correction, close-prediction, close-correction, close-correction-flat, halves, asks, plan}
 
 -- one of the list has P
 pub data Some {A : Type 0} (P : A → Type 0) : List A → Type 0 where
@@ -51,7 +52,7 @@ pub record FirstIn (v : List Float) (i : ℕ) : Type 0 where
   pub bad : NotFinite (getD v i nan)
   pub before : (j : ℕ) → j < i → NotFinite (getD v j nan) → ⊥
 
--- of the slices in the order of the search it is s that has it, and all numbers of those before it are finite
+-- of the slices in the order of the search it is one named s that has it, and all numbers of those before it are finite (New of a pair has two states and two covariances)
 pub data FirstBad : Slice → ℕ → List Input → Type 0 where
   found : {i : ℕ} {x : Input} {l : List Input} → FirstIn (x .numbers) i → FirstBad (x .slice) i (x ∷ l)
   further : {s : Slice} {i : ℕ} {x : Input} {l : List Input} → (Some NotFinite (x .numbers) → ⊥) → FirstBad s i l → FirstBad s i (x ∷ l)
@@ -71,18 +72,18 @@ searches n (setting (open-correction b)) = []
 searches n abandon = []
 searches n (reading c) = []
 
--- slices in the order of their numbers, each once
-abbrev pub InTurn : ℕ → List Input → Type 0
-InTurn k [] = Unit {0}
-InTurn k (x ∷ l) = (k < sliceNumber (x .slice)) × InTurn (sliceNumber (x .slice)) l
+-- slices in the order of their numbers, each once, after one of number k
+abbrev pub Ascending : ℕ → List Input → Type 0
+Ascending k [] = Unit {0}
+Ascending k (x ∷ l) = (k < sliceNumber (x .slice)) × Ascending (sliceNumber (x .slice)) l
 
 -- a half-turn that comes in isn't finite
 abbrev pub BadTurn : Kind → Type 0
 BadTurn k = (h : Float) × (k .residual ≡ Turn h) × NotFinite h
 
--- of the kinds it is the first at i
-abbrev pub FirstTurn : List Kind → ℕ → Type 0
-FirstTurn ks i = BadTurn (getD ks i plain) × ((j : ℕ) → j < i → BadTurn (getD ks j plain) → ⊥)
+-- the first such kind is that at i
+abbrev pub FirstBadTurn : List Kind → ℕ → Type 0
+FirstBadTurn ks i = BadTurn (getD ks i plain) × ((j : ℕ) → j < i → BadTurn (getD ks j plain) → ⊥)
 
 -- 10: a state kind is a turn
 abbrev pub IsTurn : Kind → Type 0
@@ -157,31 +158,37 @@ pub record Due (f : Format) (a : Asks) (vs : List Result) (r : Refusal) : Type 0
 abbrev pub Free : Format → Filter → Call → Type 0
 Free f s c = (d : Cause) → rank d < 7 → Applies f (asks (seen s) c) (planned (plan f (seen s) c)) d → ⊥
 
--- ---- what a step can give: 56 at 0, 7 and 8 at any row, and 9
+-- ---- what the steps of a call can give
 
-abbrev pub ByStep : Refusal → Type 0
-ByStep SIZE = ⊥
-ByStep SHORT = ⊥
-ByStep STAGE = ⊥
-ByStep STALE = ⊥
-ByStep (NUMBER s i) = NUMBER s i ≡ badLone
-ByStep PARAM = ⊥
-ByStep (PIVOT j) = Unit {0}
-ByStep (INNOV j) = Unit {0}
-ByStep RANGE = Unit {0}
-ByStep KIND = ⊥
+-- the opens; the closes, of which two are a correction's; and the one call that asks kinds to be plain
+pub data IsOpen : Call → Type 0 where
+  of-prediction : {b : List Float} → IsOpen (setting (open-prediction b))
+  of-correction : {b : List Float} → IsOpen (setting (open-correction b))
 
--- the one call that asks kinds to be plain
-abbrev pub IsFlat : Call → Type 0
-IsFlat (writing c) = ⊥
-IsFlat (setting c) = ⊥
-IsFlat (closing (close-prediction v)) = ⊥
-IsFlat (closing (close-correction m z r kinds observed)) = ⊥
-IsFlat (closing (close-correction-flat m z r observed)) = Unit {0}
-IsFlat abandon = ⊥
-IsFlat (reading c) = ⊥
+pub data IsClose : Call → Type 0 where
+  of-either : {c : CloseCall} → IsClose (closing c)
 
--- nothing stops a flat close before its kinds count: a correction is open, there are 1 to 8 states and 1 to 4 measurements, the slices are long enough and their numbers finite
+pub data IsCorrection : Call → Type 0 where
+  by-weights : {m : ℕ} {z r : List Float} {kinds : List Kind} {observed : List Float} → IsCorrection (closing (close-correction m z r kinds observed))
+  by-averages : {m : ℕ} {z r observed : List Float} → IsCorrection (closing (close-correction-flat m z r observed))
+
+pub data IsFlat : Call → Type 0 where
+  flat : {m : ℕ} {z r observed : List Float} → IsFlat (closing (close-correction-flat m z r observed))
+
+-- an open 7 at any row, and 56 at 0 for an N without a root; a close of a correction 8 at any row; each of these, and the close of a prediction, 9; another call nothing
+abbrev pub ByStep : Call → Refusal → Type 0
+ByStep c SIZE = ⊥
+ByStep c SHORT = ⊥
+ByStep c STAGE = ⊥
+ByStep c STALE = ⊥
+ByStep c (NUMBER s i) = (NUMBER s i ≡ badLone) × IsOpen c
+ByStep c PARAM = ⊥
+ByStep c (PIVOT j) = IsOpen c
+ByStep c (INNOV j) = IsCorrection c
+ByStep c RANGE = IsOpen c ⊎ IsClose c
+ByStep c KIND = ⊥
+
+-- nothing stops a close of a correction before its kinds count: a correction is open, there are 1 to 8 states and 1 to 4 measurements, the slices are long enough and their numbers finite
 pub record Measurable (s : Filter) (m : ℕ) (z r observed : List Float) : Type 0 where
   pub correcting : isCorrecting (s .track .stage) ≡ true
   pub states : (1 ≤ s .sheet .n) × (s .sheet .n ≤ 8)
@@ -190,6 +197,10 @@ pub record Measurable (s : Filter) (m : ℕ) (z r observed : List Float) : Type 
   pub finite-z : allFinite (take m z) ≡ true
   pub finite-r : allFinite (take (m * m) r) ≡ true
   pub finite-observed : allFinite (take ((s .sheet .n + s .sheet .n + 1) * m) observed) ≡ true
+
+-- a place that isn't 0 is told beside 51 to 56, 7 and 8 alone
+abbrev pub Placed : Verdict → Type 0
+Placed v = (v .place ≡ 0) ⊎ (((s : Slice) × (v .number ≡ sliceNumber s)) ⊎ ((v .number ≡ 7) ⊎ (v .number ≡ 8)))
 
 -- neither one of 51 to 56 nor 6
 abbrev pub Neither : ℕ → Type 0

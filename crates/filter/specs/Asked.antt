@@ -1,4 +1,4 @@
--- What a call asks, a field for each row of the table of refusals, and the order in which the rows are tried. Definitions only.
+-- What a call asks before its steps, a field for each row of the table of refusals, and the order in which the rows are tried. Definitions only.
 use Prim.Native.Nat.{ℕ}
 use mathlib.Core.Bool.{Bool, true, not, _&&_}
 use mathlib.Core.List.{List, [], _∷_}

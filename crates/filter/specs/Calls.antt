@@ -231,5 +231,5 @@ module _ (f : Format) where
   plan s (reading (read-p b)) = finish (done reads (take (s .sheet .n * s .sheet .n) (s .track .p)))
   plan s (reading (read-q b)) = finish (done reads (take (s .sheet .n * s .sheet .n) (s .sheet .q)))
   plan s (reading (read-points b)) = finish (done reads (take (pointNumbers (s .sheet .n)) (s .track .points)))
-  plan s (reading read-params) = finish (done reads (s .sheet .params .alpha ∷ s .sheet .params .beta ∷ s .sheet .params .kappa ∷ []))
+  plan s (reading read-params) = finish (done reads (valuesOf (s .sheet .params)))
   plan s (reading read-stale) = finish (record { change = reads; given = []; stale = s .track .stale })

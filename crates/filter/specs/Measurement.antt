@@ -24,7 +24,7 @@ pub record Lending : Type 0 where
   pub passing : Bool
 
 module _ (l : Lending) where
-  -- 1, 2 and 53 to 56 of what is lent
+  -- 1 and 2 of what is lent; 53 to 56 of it and of the half-turns
   abbrev pub sizesDo : Bool
   sizesDo = every within (record { value = l .n; from = 1; to = 8 } ∷ sized (l .m) 1 4)
 

@@ -104,6 +104,6 @@ module _ (f : Format) (n : ℕ) where
   abbrev pub newAnswer : List Float → List Float → List Float → Params → Answer
   newAnswer x p q params = record { filter = or empty (newOf x p q params); refusal = refusal (newOf x p q params) }
 
--- what a New says of two of its parts, which have one n: a slice of the later that is too short comes before a bad number of the earlier, else the earlier part comes first
+-- what a New says of two of its parts, which have one n, the sheet being the last of them: a slice of the later that is too short comes before a bad number of the earlier, else the earlier part comes first
 unfoldable pub sooner : Verdict → Verdict → Verdict
 sooner a b = cond (eqb (b .number) 2) b (earlier a b)

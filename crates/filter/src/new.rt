@@ -118,7 +118,7 @@ impl Track {
     }
 }
 
-// What a New says of two of its parts, which have one n: a slice of the later that is too short (2) comes before a bad number of the earlier, else the earlier part comes first.
+// What a New says of two of its parts, which have one n, the sheet being the last of them: a slice of the later that is too short (2) comes before a bad number of the earlier, else the earlier part comes first.
 pub fn sooner(a: Verdict, b: Verdict) -> Verdict
     ensures { λ r. ⌜ r ≡ sooner a b ⌝ }
 {

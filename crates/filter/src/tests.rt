@@ -1,4 +1,4 @@
-// What the calls test before they are taken, a function for each test, and the order of the refusals. None of them asks anything; where a test is about sizes that may not do, it is right once they do.
+// What the calls test before they are taken, a function for each test, and the order of the refusals. None of them has a `requires`; a test that goes by a size is right where the size is in range.
 ghost use mathlib.Core.Path.{_≡_};
 ghost use mathlib.Core.Bool.{true, false, _&&_, cond};
 ghost use mathlib.Core.List.{[], _++_};

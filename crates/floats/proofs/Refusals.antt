@@ -9,7 +9,7 @@ use lib.Dec.{eqb}
 use Rattle.floats.specs.declared.Slice.{Slice}
 use Rattle.floats.specs.declared.Slice.the-variants.{State, Covariance, Noise, Points, Measurement, Lone}
 use Rattle.floats.specs.declared.Verdict.{Verdict}
-use Rattle.floats.specs.Refusal.{Refusal, SIZE, SHORT, STAGE, STALE, NUMBER, PARAM, PIVOT, INNOV, RANGE, KIND, sliceNumber, number, placeOf, verdict, earlier, Outcome, refused, accepted, refusal, or, unless, onward}
+use Rattle.floats.specs.Refusal.{Refusal, SIZE, SHORT, STAGE, STALE, NUMBER, PARAM, PIVOT, INNOV, RANGE, KIND, sliceNumber, number, verdict, earlier, Outcome, refused, accepted, refusal, or, unless, onward}
 
 pub number-of : {v w : Verdict} → v ≡ w → v .number ≡ w .number
 number-of e = ap (λ (v : Verdict). v .number) e
@@ -36,25 +36,25 @@ number-above RANGE = omega arith
 number-above KIND = omega arith
 
 -- number and place give the refusal back
-named : ℕ → ℕ → Refusal
-named k i =
-    cond (eqb k 1) SIZE
-    (cond (eqb k 2) SHORT
-    (cond (eqb k 3) STAGE
-    (cond (eqb k 4) STALE
-    (cond (eqb k 6) PARAM
-    (cond (eqb k 7) (PIVOT i)
-    (cond (eqb k 8) (INNOV i)
-    (cond (eqb k 9) RANGE
-    (cond (eqb k 10) KIND
-    (cond (eqb k 51) (NUMBER State i)
-    (cond (eqb k 52) (NUMBER Covariance i)
-    (cond (eqb k 53) (NUMBER Noise i)
-    (cond (eqb k 54) (NUMBER Points i)
-    (cond (eqb k 55) (NUMBER Measurement i)
-    (NUMBER Lone i))))))))))))))
+named : Verdict → Refusal
+named v =
+    cond (eqb (v .number) 1) SIZE
+    (cond (eqb (v .number) 2) SHORT
+    (cond (eqb (v .number) 3) STAGE
+    (cond (eqb (v .number) 4) STALE
+    (cond (eqb (v .number) 6) PARAM
+    (cond (eqb (v .number) 7) (PIVOT (v .place))
+    (cond (eqb (v .number) 8) (INNOV (v .place))
+    (cond (eqb (v .number) 9) RANGE
+    (cond (eqb (v .number) 10) KIND
+    (cond (eqb (v .number) 51) (NUMBER State (v .place))
+    (cond (eqb (v .number) 52) (NUMBER Covariance (v .place))
+    (cond (eqb (v .number) 53) (NUMBER Noise (v .place))
+    (cond (eqb (v .number) 54) (NUMBER Points (v .place))
+    (cond (eqb (v .number) 55) (NUMBER Measurement (v .place))
+    (NUMBER Lone (v .place)))))))))))))))
 
-named-verdict : (r : Refusal) → named (number r) (placeOf r) ≡ r
+named-verdict : (r : Refusal) → named (verdict r) ≡ r
 unfolding named
 named-verdict SIZE = refl
 named-verdict SHORT = refl
@@ -73,11 +73,11 @@ named-verdict (NUMBER Measurement i) = refl
 named-verdict (NUMBER Lone i) = refl
 
 pub verdict-same : {q r : Refusal} → verdict q ≡ verdict r → q ≡ r
-verdict-same {q} {r} e = sym (named-verdict q) ∙ ap (λ (v : Verdict). named (v .number) (v .place)) e ∙ named-verdict r
+verdict-same {q} {r} e = sym (named-verdict q) ∙ ap named e ∙ named-verdict r
 
 pub is-stage : (r : Refusal) → number r ≡ 3 → r ≡ STAGE
 unfolding named
-is-stage r e = sym (named-verdict r) ∙ ap (λ (k : ℕ). named k (placeOf r)) e
+is-stage r e = sym (named-verdict r) ∙ ap (λ (k : ℕ). named (record { number = k; place = verdict r .place })) e
 
 module _ {A : Type 0} where
   pub refused-never : {r : Refusal} {a : A} → refused r ≡ accepted a → ⊥

@@ -21,41 +21,29 @@ sliceNumber Points = 54
 sliceNumber Measurement = 55
 sliceNumber Lone = 56
 
-abbrev pub number : Refusal → ℕ
-number SIZE = 1
-number SHORT = 2
-number STAGE = 3
-number STALE = 4
-number (NUMBER s i) = sliceNumber s
-number PARAM = 6
-number (PIVOT j) = 7
-number (INNOV j) = 8
-number RANGE = 9
-number KIND = 10
+-- a number at place 0
+abbrev pub placeless : ℕ → Verdict
+placeless k = record { number = k; place = 0 }
 
-abbrev pub placeOf : Refusal → ℕ
-placeOf SIZE = 0
-placeOf SHORT = 0
-placeOf STAGE = 0
-placeOf STALE = 0
-placeOf (NUMBER s i) = i
-placeOf PARAM = 0
-placeOf (PIVOT j) = j
-placeOf (INNOV j) = j
-placeOf RANGE = 0
-placeOf KIND = 0
+-- what every answer says: a number and a place, which is 0 but for a bad number and a bad pivot
+abbrev pub verdict : Refusal → Verdict
+verdict SIZE = placeless 1
+verdict SHORT = placeless 2
+verdict STAGE = placeless 3
+verdict STALE = placeless 4
+verdict (NUMBER s i) = record { number = sliceNumber s; place = i }
+verdict PARAM = placeless 6
+verdict (PIVOT j) = record { number = 7; place = j }
+verdict (INNOV j) = record { number = 8; place = j }
+verdict RANGE = placeless 9
+verdict KIND = placeless 10
+
+abbrev pub number : Refusal → ℕ
+number r = verdict r .number
 
 -- a bad number that stands alone: 56 at 0
 abbrev pub badLone : Refusal
 badLone = NUMBER Lone 0
-
--- what every answer says: a number and a place
-abbrev pub verdict : Refusal → Verdict
-verdict r = record { number = number r; place = placeOf r }
-
--- a number at place 0
-abbrev pub placeless : ℕ → Verdict
-placeless k = record { number = k; place = 0 }
 
 -- 0 means accepted
 abbrev pub taken : Verdict
