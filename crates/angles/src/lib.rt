@@ -37,7 +37,7 @@ pub struct Wrapped {
     pub value: f64,
 }
 
-// The wrap for any caller: 56 where d or h isn't finite, 6 where h isn't above 0 or 2h isn't finite; at place 0.
+// The wrap for any caller: 56 where d or h isn't finite, else 6 where h isn't above 0 or 2h isn't finite; at place 0.
 pub fn wrap(d: f64, h: f64) -> Wrapped
     ensures { λ r. ⌜ r ≡ wrapped (wrapOf binary64 d h) ⌝ }
 {
@@ -104,7 +104,7 @@ pub fn kind_passes(k: Kind) -> bool
     }
 }
 
-// The check of a kind: 56 where its half-turn isn't finite, 6 where it isn't above 0 or twice it isn't finite, else 0; at place 0.
+// The check of a kind: 56 where its half-turn isn't finite, else 6 where it isn't above 0 or twice it isn't finite, else 0; at place 0.
 pub fn kind_refusal(k: Kind) -> Verdict
     ensures { λ r. ⌜ r ≡ refusal (kindOf binary64 k) ⌝ }
 {

@@ -9,8 +9,7 @@ use lib.ListN.{length, take}
 use lib.Ieee.{Float, Format, add}
 use Rattle.floats.specs.declared.Slice.{Slice}
 use Rattle.floats.specs.declared.Slice.the-variants.{State, Covariance, Noise, Lone}
-use Rattle.floats.specs.declared.Verdict.{Verdict}
-use Rattle.floats.specs.Refusal.{Refusal, NUMBER, PARAM, SIZE, STAGE, STALE, KIND, PIVOT, INNOV, RANGE, badLone, verdict, taken, Outcome, refusal}
+use Rattle.floats.specs.Refusal.{Refusal, NUMBER, PARAM, SIZE, STAGE, KIND, PIVOT, INNOV, badLone, verdict, taken, Outcome, refusal}
 use Rattle.floats.specs.Search.{Input}
 use Rattle.floats.specs.Numbers.{plusZero, zeros, allFinite}
 use Rattle.floats.specs.Fronts.{front, over}
@@ -35,8 +34,8 @@ use Rattle.demands.specs.Listed.{listedAtOpen, listedAtPrediction, liste
 use Rattle.demands.specs.Runs.{told}
 use Rattle.demands.specs.Sound.{Sound, Tidy, Reached, Yielded, handedOut, Each}
 use Rattle.demands.proofs.Exactly.{exactly, taken-exactly, new-exactly, new-taken, new-track-exactly, new-track-taken, new-sheet-exactly, new-sheet-taken, point-exactly, point-taken, wrap-exactly, wrap-taken, wrap-refused, root-exactly, root-taken, kind-exactly, kind-taken, one-of, ends-so, refused-unwritten, refused-values, new-refused, new-track-refused, new-sheet-refused, point-refused}
-use Rattle.demands.proofs.Places.{some-bad, one-bad, turn-at, placed-so}
-use Rattle.demands.proofs.Pivots.{by-own-steps, prediction-pivot, correction-opened-pivot, correction-closed-pivot, flat-correction-pivot}
+use Rattle.demands.proofs.Places.{some-bad, one-bad, turn-at, placed-of, placed-so}
+use Rattle.demands.proofs.Pivots.{number-exactly, pivot-by-open, innov-by-correction, range-by-steps, prediction-pivot, correction-opened-pivot, correction-closed-pivot, flat-correction-pivot}
 use Rattle.demands.proofs.Listed.{open-prediction-lists, open-correction-lists, close-prediction-lists, close-correction-lists, close-correction-flat-lists}
 use Rattle.demands.proofs.Table.{searches-so, ascending, kind-checked, steps-give, stage-exactly, states-first, kind-only, never-stale, never-param}
 use Rattle.demands.proofs.Turned.{turned-away-exactly, half-turn-exactly}
@@ -59,13 +58,13 @@ module _ (f : Format) where
   pub taken-when : (s : Filter) (c : Call) → (step f s c .reply .refusal ≡ taken) ↔ ((d : Cause) → Applies f (asks (seen s) c) (planned (plan f (seen s) c)) d → ⊥)
   taken-when = taken-exactly f
 
-  -- The same of New, which has no steps. It asks for 1 to 8 states, for slices that are long enough, for finite numbers, searched in x, P, Q and the parameters in this order, and for parameters that pass 6;
+  -- The same of New, which has no steps. It asks for 1 to 8 states, for slices that are long enough, for finite numbers, x, P, Q and the parameters being searched in this order, and for parameters that pass 6;
   pub new-asks : (n : ℕ) (x p q : List Float) (params : Params) → newAsks n (from x p ∷ []) q params ≡ record {
     fits = true;
     sizes = record { value = n; from = 1; to = 8 } ∷ [];
     lent = record { slice = x; needs = n } ∷ record { slice = p; needs = n * n } ∷ record { slice = q; needs = n * n } ∷ [];
     stale = false;
-    inputs = record { slice = State; numbers = take n x } ∷ record { slice = Covariance; numbers = take (n * n) p } ∷ record { slice = Noise; numbers = take (n * n) q } ∷ record { slice = Lone; numbers = params .alpha ∷ params .beta ∷ params .kappa ∷ [] } ∷ [];
+    inputs = record { name = State; numbers = take n x } ∷ record { name = Covariance; numbers = take (n * n) p } ∷ record { name = Noise; numbers = take (n * n) q } ∷ record { name = Lone; numbers = params .alpha ∷ params .beta ∷ params .kappa ∷ [] } ∷ [];
     plain = [];
     params = by-params n params ∷ [];
   }
@@ -83,7 +82,7 @@ module _ (f : Format) where
     sizes = record { value = n; from = 1; to = 8 } ∷ [];
     lent = record { slice = x; needs = n } ∷ record { slice = p; needs = n * n } ∷ [];
     stale = false;
-    inputs = record { slice = State; numbers = take n x } ∷ record { slice = Covariance; numbers = take (n * n) p } ∷ [];
+    inputs = record { name = State; numbers = take n x } ∷ record { name = Covariance; numbers = take (n * n) p } ∷ [];
     plain = [];
     params = [];
   }
@@ -94,7 +93,7 @@ module _ (f : Format) where
     sizes = record { value = n; from = 1; to = 8 } ∷ [];
     lent = record { slice = q; needs = n * n } ∷ [];
     stale = false;
-    inputs = record { slice = Noise; numbers = take (n * n) q } ∷ record { slice = Lone; numbers = params .alpha ∷ params .beta ∷ params .kappa ∷ [] } ∷ [];
+    inputs = record { name = Noise; numbers = take (n * n) q } ∷ record { name = Lone; numbers = params .alpha ∷ params .beta ∷ params .kappa ∷ [] } ∷ [];
     plain = [];
     params = by-params n params ∷ [];
   }
@@ -149,7 +148,7 @@ module _ (f : Format) where
   pub root-taken-when : (x : Float) → (refusal (rootOutcome f x) ≡ taken) ↔ (NotFinite x ⊎ Below x → ⊥)
   root-taken-when = root-taken f
 
-  -- and of the check of a kind: 56 at 0 exactly when it is a turn by a number that isn't finite, 6 exactly when by one that is and isn't above 0 or whose double isn't finite, and no other number. Setting a kind answers the same, once 3 and 1 are passed.
+  -- and of the check of a kind: 56 at 0 exactly when it is a turn by a number that isn't finite, 6 exactly when it is a turn by a finite number that isn't above 0 or whose double isn't finite, and no other number. Setting a kind answers the same, once 3 and 1 are passed.
   pub kind-exactly-when : (k : Kind) (r : Refusal)
       → (refusal (kindOf f k) ≡ verdict r) ↔ (((r ≡ badLone) × BadTurn k) ⊎ ((r ≡ PARAM) × (BadTurn k → ⊥) × UnfitTurn f (k .residual)))
   kind-exactly-when = kind-exactly f
@@ -167,7 +166,7 @@ module _ (f : Format) where
   pub values-handed-back : (r : Reply) → (paramsRead r .refusal ≡ r .refusal) × (staleRead r .refusal ≡ r .refusal)
   values-handed-back r = (refl, refl)
 
-  -- Each of these ends so too, with 0 at place 0 or with a refusal's number at its place, being `refusal` of an outcome.
+  -- New, its parts, point k, the wrap, the root and the check of a kind end so too, with 0 at place 0 or with a refusal's number at its place, each being `refusal` of an outcome.
   pub so-do-the-others : {A : Type 0} (o : Outcome A) → (refusal o ≡ taken) ⊎ ((r : Refusal) × (refusal o ≡ verdict r))
   so-do-the-others = one-of
 
@@ -179,14 +178,14 @@ module _ (f : Format) where
   size-when = states-first f
 
   -- 10 is given by the flat close alone, and exactly when a correction is open, there are 1 to 8 states and 1 to 4 measurements, the slices are long enough and their numbers finite, and one of the first n kinds is a turn.
-  pub kind-by-flat-alone : (s : Filter) (c : Call) → step f s c .reply .refusal ≡ verdict KIND → IsFlat c
+  pub kind-by-flat-alone : (s : Filter) (c : Call) → step f s c .reply .refusal .number ≡ 10 → IsFlat c
   kind-by-flat-alone = kind-only f
 
   pub kind-when : (s : Filter) (m : ℕ) (z r observed : List Float) → (step f s (closing (close-correction-flat m z r observed)) .reply .refusal ≡ verdict KIND) ↔ (Measurable s m z r observed × Some IsTurn (take (s .sheet .n) (s .sheet .kinds)))
   kind-when = turned-away-exactly f
 
   -- The flat close never gives 4 or 6: stale doesn't stop it, and nothing that it is lent has to pass 6.
-  pub flat-correction-never : (s : Filter) (m : ℕ) (z r observed : List Float) → let k = step f s (closing (close-correction-flat m z r observed)) .reply .refusal in (k ≢ verdict STALE) × (k ≢ verdict PARAM)
+  pub flat-correction-never : (s : Filter) (m : ℕ) (z r observed : List Float) → let k = step f s (closing (close-correction-flat m z r observed)) .reply .refusal .number in (k ≢ 4) × (k ≢ 6)
   flat-correction-never s m z r observed = let c = closing (close-correction-flat m z r observed) in (never-stale f s c refl, never-param f s c refl)
 
   -- ---- places (document 02, A5)
@@ -198,18 +197,22 @@ module _ (f : Format) where
   pub one-first-bad : {s t : Slice} {i j : ℕ} {l : List Input} → FirstBad s i l → FirstBad t j l → NUMBER s i ≡ NUMBER t j
   one-first-bad = one-bad
 
-  -- what a call searches, in this order: a close of a correction R, the observed points and z, and then the half-turns of its own kinds, of which the flat one has none; a call that sets, and the close of a prediction, the one slice that it is lent, or its lone values; the opens, abandon and the readings nothing.
+  -- what a call searches, in this order. A close of a correction: R, the observed points, z, and then the half-turns of its own kinds, of which the flat one has none. A call that sets, and the close of a prediction: the one slice that it is lent, or its lone values. The opens, abandon and the readings: nothing.
   pub searched-by : (s : Filter) (c : Call) → asks s c .inputs ≡ searches (s .sheet .n) c
   searched-by = searches-so
 
-  -- That is slice after slice in the order of their numbers, and so does New search (of a pair it takes the second start right after the first);
+  -- That is slice after slice in the order of their numbers, and so does New search (New of a pair takes the second start right after the first: `new-asks` in Pairs);
   pub searched-in-turn : (s : Filter) (c : Call) → Ascending 50 (asks s c .inputs)
   searched-in-turn s c = rw (searches-so s c) (ascending (s .sheet .n) c)
 
   pub new-searched-in-turn : (n : ℕ) (x p q : List Float) (params : Params) → Ascending 50 (newAsks n (from x p ∷ []) q params .inputs)
   new-searched-in-turn n x p q params = (omega arith, (omega arith, (omega arith, (omega arith, tt))))
 
-  -- and the first bad half-turn is told at the index of its own kind, the first that is a turn by a number that isn't finite: a plain one keeps its place. So a weighted close gives 56 at i exactly when a correction is open, sizes, lengths and lent numbers do, and the first such kind of its first m is that at i.
+  -- So one of 51 to 56 is given at place i exactly when nothing is refused before the search (`Free`), and that is the slice and the place of the first bad number. (On bits that no call yields an open gives 56 at 0, for an N without a root.)
+  pub number-when : (s : Filter) (c : Call) → (IsOpen c → ⊥) → (t : Slice) (i : ℕ) → (step f s c .reply .refusal ≡ verdict (NUMBER t i)) ↔ (Free f 4 s c × FirstBad t i (searches (s .sheet .n) c))
+  number-when = number-exactly f
+
+  -- The first bad half-turn is told at the index of its own kind, the first that is a turn by a number that isn't finite: a plain one keeps its place. So a weighted close gives 56 at i exactly when a correction is open, sizes are in range, the slices are long enough and their numbers finite (`Measurable`), and the first such kind of its first m is that at i.
   pub half-turn-place : (ks : List Kind) (i : ℕ) → FirstIn (halves ks) i ↔ FirstBadTurn ks i
   half-turn-place = turn-at
 
@@ -218,31 +221,34 @@ module _ (f : Format) where
   half-turn-when = half-turn-exactly f
 
   -- 7 is given by the opens alone, and 8 by the closes of a correction alone.
-  pub pivot-by-opens-alone : (s : Filter) (c : Call) (j : ℕ) → step f s c .reply .refusal ≡ verdict (PIVOT j) → IsOpen c
-  pivot-by-opens-alone s c j = by-own-steps f s c (PIVOT j) (omega arith) (omega arith)
+  pub pivot-by-opens-alone : (s : Filter) (c : Call) → step f s c .reply .refusal .number ≡ 7 → IsOpen c
+  pivot-by-opens-alone = pivot-by-open f
 
-  pub innov-by-corrections-alone : (s : Filter) (c : Call) (j : ℕ) → step f s c .reply .refusal ≡ verdict (INNOV j) → IsCorrection c
-  innov-by-corrections-alone s c j = by-own-steps f s c (INNOV j) (omega arith) (omega arith)
+  pub innov-by-corrections-alone : (s : Filter) (c : Call) → step f s c .reply .refusal .number ≡ 8 → IsCorrection c
+  innov-by-corrections-alone = innov-by-correction f
 
-  -- 7 tells the row of the first bad pivot: the columns before it are right, so their pivots are good, and it isn't finite or isn't above 0 (`BadPivot`). An open gives it exactly when nothing is refused before its steps (`Free`) and row j of P is the first whose pivot is bad; an open correction has to be stale, as it draws only then;
-  pub pivot-at-open-prediction : (s : Filter) (b : List Float) (j : ℕ) → let c = setting (open-prediction b) in (step f s c .reply .refusal ≡ verdict (PIVOT j)) ↔ (Free f s c × BadPivot f (s .track .p) (s .sheet .n) j)
+  -- 7 tells the row of the first bad pivot: the columns before it are right, so their pivots are good and their entries finite (else it would be 9), and it isn't finite or isn't above 0 (`BadPivot`). An open gives it exactly when nothing is refused before its steps and row j of P is that row; an open correction has to be stale, as it draws only then;
+  pub pivot-at-open-prediction : (s : Filter) (b : List Float) (j : ℕ) → let c = setting (open-prediction b) in (step f s c .reply .refusal ≡ verdict (PIVOT j)) ↔ (Free f 7 s c × BadPivot f (s .track .p) (s .sheet .n) j)
   pivot-at-open-prediction = prediction-pivot f
 
-  pub pivot-at-open-correction : (s : Filter) (b : List Float) (j : ℕ) → let c = setting (open-correction b) in (step f s c .reply .refusal ≡ verdict (PIVOT j)) ↔ (Free f s c × ((s .track .stale ≡ true) × BadPivot f (s .track .p) (s .sheet .n) j))
+  pub pivot-at-open-correction : (s : Filter) (b : List Float) (j : ℕ) → let c = setting (open-correction b) in (step f s c .reply .refusal ≡ verdict (PIVOT j)) ↔ (Free f 7 s c × ((s .track .stale ≡ true) × BadPivot f (s .track .p) (s .sheet .n) j))
   pivot-at-open-correction = correction-opened-pivot f
 
   -- 8 the same of S, by either close of a correction, once z mean, S, x mean and cross covariance are finite;
   pub pivot-at-correction : (s : Filter) (m : ℕ) (z r : List Float) (kinds : List Kind) (observed : List Float) (j : ℕ) → let c = closing (close-correction m z r kinds observed) in let h = weightedFrom f (seen s) m z r kinds observed in
-      (step f s c .reply .refusal ≡ verdict (INNOV j)) ↔ (Free f s c × ((Some Fails (listedAtHead f h) → ⊥) × BadPivot f (h .s) m j))
+      (step f s c .reply .refusal ≡ verdict (INNOV j)) ↔ (Free f 7 s c × ((Some Fails (listedAtHead f h) → ⊥) × BadPivot f (h .s) m j))
   pivot-at-correction = correction-closed-pivot f
 
   pub pivot-at-flat-correction : (s : Filter) (m : ℕ) (z r observed : List Float) (j : ℕ) → let c = closing (close-correction-flat m z r observed) in let h = flatFrom f (seen s) m z r observed in
-      (step f s c .reply .refusal ≡ verdict (INNOV j)) ↔ (Free f s c × ((Some Fails (listedAtHead f h) → ⊥) × BadPivot f (h .s) m j))
+      (step f s c .reply .refusal ≡ verdict (INNOV j)) ↔ (Free f 7 s c × ((Some Fails (listedAtHead f h) → ⊥) × BadPivot f (h .s) m j))
   pivot-at-flat-correction = flat-correction-pivot f
 
-  -- and all other answers tell place 0, since each is 0 at place 0 or a refusal's number at its place (`a-result-or-a-refusal`, here and in Pairs, and `so-do-the-others`).
-  pub no-other-place : (v : Verdict) → (v ≡ taken) ⊎ ((r : Refusal) × (v ≡ verdict r)) → Placed v
-  no-other-place = placed-so
+  -- and beside every other number stands place 0, whatever answers.
+  pub no-other-place : (s : Filter) (c : Call) → Placed (step f s c .reply .refusal)
+  no-other-place s c = placed-so _ (ends-so f s c)
+
+  pub nor-of-the-others : {A : Type 0} (o : Outcome A) → Placed (refusal o)
+  nor-of-the-others = placed-of
 
   -- ---- the steps' own numbers: the first result that fails, of those that document 01 lists, in its order
 
@@ -272,8 +278,8 @@ module _ (f : Format) where
   steps-give-their-own = steps-give f
 
   -- so 9 is given by the opens and closes alone;
-  pub range-by-steps-alone : (s : Filter) (c : Call) → step f s c .reply .refusal ≡ verdict RANGE → IsOpen c ⊎ IsClose c
-  range-by-steps-alone s c = by-own-steps f s c RANGE (omega arith) (omega arith)
+  pub range-by-steps-alone : (s : Filter) (c : Call) → step f s c .reply .refusal .number ≡ 9 → IsOpen c ⊎ IsClose c
+  range-by-steps-alone = range-by-steps f
 
   -- and opening gives none of 51 to 56 and not 6, on any filter that the demands speak of.
   pub opening-prediction-never : {s : Filter} → Yielded f s → (b : List Float) → Neither (step f s (setting (open-prediction b)) .reply .refusal .number)

@@ -20,7 +20,7 @@ use Rattle.angles.specs.Kinds.{isPlain, halfOf, passes, kindOf}
 use Rattle.angles.specs.declared.Kind.{Kind}
 use Rattle.matrix.specs.Results.{Result, First, now, later, Plan, run, planned}
 use Rattle.matrix.proofs.Flat.{split}
-use Rattle.floats.proofs.Refusals.{number-above, number-of, verdict-same}
+use Rattle.floats.proofs.Refusals.{number-above, number-of, named, by-number, verdict-same}
 use Rattle.matrix.proofs.Results.{plan-refused}
 use Rattle.sigma.specs.declared.Params.{Params}
 use Rattle.filter.specs.declared.Filter.{Filter}
@@ -343,6 +343,14 @@ unchanged s (accepted d) h = absurd (h refl)
 module _ (f : Format) (s : Filter) (c : Call) where
   pub ends-so : (step f s c .reply .refusal ≡ taken) ⊎ ((r : Refusal) × (step f s c .reply .refusal ≡ verdict r))
   ends-so = rw (step-told f s c) (one-of (outcome f (seen s) c))
+
+  -- a number that isn't 0 tells the refusal, but for its place
+  pub as-refused : {k : ℕ} → 0 < k → step f s c .reply .refusal .number ≡ k → (i : ℕ) × (step f s c .reply .refusal ≡ verdict (named (record { number = k; place = i })))
+  as-refused {k} h e =
+      ⊎-elim
+      (λ z. let y : 0 ≡ k = sym (number-of z) ∙ e in absurd (omega arith))
+      (λ w. (verdict (w .0) .place, w .1 ∙ ap verdict (by-number (w .0) (sym (number-of (w .1)) ∙ e))))
+      ends-so
 
   pub refused-nothing : step f s c .reply .refusal .number ≢ 0 → (step f s c .filter ≡ s) × (step f s c .reply .given ≡ []) × (step f s c .reply .stale ≡ true)
   unfolding step

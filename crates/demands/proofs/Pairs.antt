@@ -25,11 +25,13 @@ use Rattle.pairs.specs.declared.Side.the-variants.{First, Second}
 use Rattle.pairs.specs.Pairs.{pair, trackAt, solo, onSheet, pairFits, pairAsks, PairStepped, pairStep, pairAnswered}
 use Rattle.pairs.specs.NewPair.{emptyPair, newPairAsks, newPairAnswer}
 use Rattle.demands.specs.Runs.{told}
-use Rattle.demands.specs.Rows.{OutOfRange, Cause, Applies, Due}
+use Rattle.demands.specs.Rows.{OutOfRange, searches, Cause, Applies, Due, Placed}
 use Rattle.demands.specs.Sound.{Reached, Yielded, handedOut, Each}
 use Rattle.demands.specs.Settings.{sheetMarks}
 use Rattle.demands.specs.PairRuns.{other, SideCall, by, pairTold, pairRan, ofSide, own, barred, hears, aloneTold, Noticed, notices, meetingTold, AlikePairs, nobody, PairStruck, pairRest, OpenThrough, unreaching}
 use Rattle.demands.specs.PairSound.{PairReached, PairYielded}
+use Rattle.demands.proofs.Places.{placed-so}
+use Rattle.demands.proofs.Table.{searches-so}
 use Rattle.demands.proofs.PairSteps.{on-sheet-is, on-is, side-barred, other-unreached, refused-whole}
 use Rattle.demands.proofs.PairRuns.{notice, alone-told}
 use Rattle.demands.proofs.PairNotice.{noticed, left-alone}
@@ -46,7 +48,7 @@ module _ (f : Format) where
   -- ---- One call, and with it demand 2
 
   module _ (p : Pair) where
-    -- A call on a side is the solo call on sheet and side, in what it tells and in what it leaves of the side (so that what Demand2 says of a filter's call holds of it); but a sheet change while the partner has a call open is refused by 3.
+    -- A call on a side is the solo call on sheet and side, in what it tells and in what it leaves of the side (so that what Demand1 says of places and Demand2 of numbers holds of it); but a sheet change while the partner has a call open is refused by 3.
     pub a-call-on-a-side : (w : Side) (c : Call) → let t = cond (barred p w c) (stepped (solo p w) (refused STAGE)) (step f (solo p w) c) in (pairStep f p w c .reply ≡ t .reply) × (solo (pairStep f p w c .pair) w ≡ t .filter)
     a-call-on-a-side w c = let e = on-is f p w c ∙ side-barred f p w c in (ap (λ (t : Stepped). t .reply) e, ap (λ (t : Stepped). t .filter) e)
 
@@ -98,6 +100,13 @@ module _ (f : Format) where
       pub taken-when : (pairStep f p w c .reply .refusal ≡ taken) ↔ ((d : Cause) → Applies f (pairAsks p w c) (planned (plan f (seen (solo p w)) c)) d → ⊥)
       taken-when = pair-taken f p w c
 
+      -- What is searched is what that call searches on a filter, and a place that isn't 0 stands beside the same numbers.
+      pub searched-by : pairAsks p w c .inputs ≡ searches (p .sheet .n) c
+      searched-by = searches-so (seen (solo p w)) c
+
+      pub no-other-place : Placed (pairStep f p w c .reply .refusal)
+      no-other-place = placed-so _ (pair-ends f p w c)
+
       -- So 3 is given exactly when the call doesn't fit what is open, and n outside 1 to 8 gets 1 from every call that 3 doesn't stop.
       pub stage-when : (pairStep f p w c .reply .refusal ≡ verdict STAGE) ↔ (pairFits p w c ≡ false)
       stage-when = stage-of f p w c
@@ -118,14 +127,14 @@ module _ (f : Format) where
   pub handed-back : (t : PairStepped) → (pairAnswered t .pair ≡ t .pair) × (pairAnswered t .refusal ≡ t .reply .refusal)
   handed-back t = (refl, refl)
 
-  -- New of a pair asks for 1 to 8 states, for five slices that are long enough, for finite numbers, searched in x and P of the first, x and P of the second, Q and the parameters in this order, and for parameters that pass 6;
+  -- New of a pair asks for 1 to 8 states, for five slices that are long enough, for finite numbers, x and P of the first, x and P of the second, Q and the parameters being searched in this order, so that 51 and 52 don't tell whose, and for parameters that pass 6;
   module _ (n : ℕ) (x₁ p₁ x₂ p₂ q : List Float) (params : Params) where
     pub new-asks : newPairAsks n x₁ p₁ x₂ p₂ q params ≡ record {
       fits = true;
       sizes = record { value = n; from = 1; to = 8 } ∷ [];
       lent = record { slice = x₁; needs = n } ∷ record { slice = p₁; needs = n * n } ∷ record { slice = x₂; needs = n } ∷ record { slice = p₂; needs = n * n } ∷ record { slice = q; needs = n * n } ∷ [];
       stale = false;
-      inputs = record { slice = State; numbers = take n x₁ } ∷ record { slice = Covariance; numbers = take (n * n) p₁ } ∷ record { slice = State; numbers = take n x₂ } ∷ record { slice = Covariance; numbers = take (n * n) p₂ } ∷ record { slice = Noise; numbers = take (n * n) q } ∷ record { slice = Lone; numbers = params .alpha ∷ params .beta ∷ params .kappa ∷ [] } ∷ [];
+      inputs = record { name = State; numbers = take n x₁ } ∷ record { name = Covariance; numbers = take (n * n) p₁ } ∷ record { name = State; numbers = take n x₂ } ∷ record { name = Covariance; numbers = take (n * n) p₂ } ∷ record { name = Noise; numbers = take (n * n) q } ∷ record { name = Lone; numbers = params .alpha ∷ params .beta ∷ params .kappa ∷ [] } ∷ [];
       plain = [];
       params = by-params n params ∷ [];
     }

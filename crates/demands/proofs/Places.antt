@@ -5,17 +5,17 @@ use mathlib.Core.Bool.{Bool, true, false}
 use mathlib.Core.List.{List, [], _∷_}
 use mathlib.Core.Logic.{_↔_, _⊎_, inl, inr, ⊎-elim}
 use native.Mathlib.Omega.{arith}
-use lib.ListN.{length, getD}
-use lib.Ieee.{Float, nan}
+use lib.ListN.{getD}
+use lib.Ieee.{Float}
 use lib.Ieee.Scale.{finite}
 use Rattle.floats.specs.declared.Slice.{Slice}
 use Rattle.floats.specs.declared.Verdict.{Verdict}
-use Rattle.floats.specs.Refusal.{Refusal, SIZE, SHORT, STAGE, STALE, NUMBER, PARAM, PIVOT, INNOV, RANGE, KIND, verdict, taken, Outcome, refused, accepted, unless, onward, nothing}
-use Rattle.floats.specs.Numbers.{allFinite}
+use Rattle.floats.specs.Refusal.{Refusal, SIZE, SHORT, STAGE, STALE, NUMBER, PARAM, PIVOT, INNOV, RANGE, KIND, verdict, taken, Outcome, refused, accepted, refusal, unless, onward, nothing}
+use Rattle.floats.specs.Numbers.{plusZero, allFinite}
 use Rattle.floats.specs.Search.{Input, searchedFrom, searched}
 use Rattle.floats.proofs.Refusals.{refused-never}
 use Rattle.floats.proofs.Search.{none-bad, all-good}
-use Rattle.angles.specs.Kinds.{plain}
+use Rattle.angles.specs.Kinds.{plain, halfOf}
 use Rattle.angles.specs.declared.Kind.{Kind}
 use Rattle.filter.specs.Calls.{halves}
 use Rattle.demands.specs.Rows.{Some, here, there, NotFinite, FirstIn, FirstBad, found, further, BadTurn, FirstBadTurn, Placed}
@@ -25,14 +25,14 @@ use Rattle.demands.proofs.Passed.{Pass, finiteIn, searched-finite}
 -- ---- one slice
 
 first-zero : {x : Float} {v : List Float} → NotFinite x → FirstIn (x ∷ v) 0
-first-zero b = record { inside = omega arith; bad = b; before = λ q h. absurd (omega arith) }
+first-zero b = record { has = b; before = λ j h. absurd (omega arith) }
 
 first-next : {x : Float} {v : List Float} {p : ℕ} → finite x ≡ true → FirstIn v p → FirstIn (x ∷ v) (suc p)
-first-next {x} {v} {p} e w = record { inside = omega (arith, w .inside); bad = w .bad; before = earlier }
+first-next {x} {v} {p} e w = record { has = w .has; before = earlier }
   where
-    earlier : (q : ℕ) → q < suc p → NotFinite (getD (x ∷ v) q nan) → ⊥
+    earlier : (j : ℕ) → j < suc p → NotFinite (getD (x ∷ v) j plusZero) → ⊥
     earlier zero h b = two-ways e b
-    earlier (suc q) h b = w .before q (omega arith) b
+    earlier (suc j) h b = w .before j (omega arith) b
 
 slice-words : (s : Slice) (i : ℕ) (v : List Float) (r : Refusal) → searchedFrom s i v ≡ refused r → (p : ℕ) × (r ≡ NUMBER s (i + p)) × FirstIn v p
 unfolding searchedFrom
@@ -46,12 +46,12 @@ slice-words s i (x ∷ v) r e = go (finite x) refl (slice-words s (i + 1) v r) e
 
 words-slice : (s : Slice) (i : ℕ) (v : List Float) (p : ℕ) → FirstIn v p → searchedFrom s i v ≡ refused (NUMBER s (i + p))
 unfolding searchedFrom
-words-slice s i [] p w = absurd (omega (arith, w .inside))
-words-slice s i (x ∷ v) zero w = let z : i + 0 ≡ i = omega arith in rw (w .bad, z)
+words-slice s i [] p w = absurd (two-ways refl (w .has))
+words-slice s i (x ∷ v) zero w = let z : i + 0 ≡ i = omega arith in rw (w .has, z)
 words-slice s i (x ∷ v) (suc p) w =
     let z : i + 1 + p ≡ i + suc p = omega arith in
     rw (passes-where (itself (finite x)) (λ b. w .before 0 (omega arith) b))
-    (words-slice s (i + 1) v p (record { inside = omega (arith, w .inside); bad = w .bad; before = λ q h b. w .before (suc q) (omega arith) b }) ∙ ap (λ (k : ℕ). refused (NUMBER s k)) z)
+    (words-slice s (i + 1) v p (record { has = w .has; before = λ j h b. w .before (suc j) (omega arith) b }) ∙ ap (λ (k : ℕ). refused (NUMBER s k)) z)
 
 -- ---- slice after slice
 
@@ -62,12 +62,12 @@ no-some v e = all-finite v .passes e
 pub search-words : (l : List Input) (r : Refusal) → searched l ≡ refused r → (s : Slice) × (i : ℕ) × (r ≡ NUMBER s i) × FirstBad s i l
 unfolding searched
 search-words [] r e = absurd (refused-never (sym e))
-search-words (x ∷ l) r e = go (searchedFrom (x .slice) 0 (x .numbers)) refl (search-words l r) e
+search-words (x ∷ l) r e = go (searchedFrom (x .name) 0 (x .numbers)) refl (search-words l r) e
   where
-    go : (o : Outcome Bool) → searchedFrom (x .slice) 0 (x .numbers) ≡ o → (searched l ≡ refused r → (s : Slice) × (i : ℕ) × (r ≡ NUMBER s i) × FirstBad s i l)
+    go : (o : Outcome Bool) → searchedFrom (x .name) 0 (x .numbers) ≡ o → (searched l ≡ refused r → (s : Slice) × (i : ℕ) × (r ≡ NUMBER s i) × FirstBad s i l)
         → onward o (λ (t : Bool). searched l) ≡ refused r → (s : Slice) × (i : ℕ) × (r ≡ NUMBER s i) × FirstBad s i (x ∷ l)
-    go (refused q) d k e = let y : q ≡ r = cc in let w = slice-words (x .slice) 0 (x .numbers) q d in let z : 0 + w .0 ≡ w .0 = omega arith in (x .slice, w .0, sym y ∙ w .1 ∙ ap (NUMBER (x .slice)) z, found (w .2))
-    go (accepted t) d k e = let w = k e in (w .0, w .1, w .2, further (no-some (x .numbers) (all-good (x .slice) 0 (x .numbers) d)) (w .3))
+    go (refused q) d k e = let y : q ≡ r = cc in let w = slice-words (x .name) 0 (x .numbers) q d in let z : 0 + w .0 ≡ w .0 = omega arith in (x .name, w .0, sym y ∙ w .1 ∙ ap (NUMBER (x .name)) z, found (w .2))
+    go (accepted t) d k e = let w = k e in (w .0, w .1, w .2, further (no-some (x .numbers) (all-good (x .name) 0 (x .numbers) d)) (w .3))
 
 -- what passes has none
 passed-none : (l : List Input) → Pass finiteIn l → Some (λ (x : Input). Some NotFinite (x .numbers)) l → ⊥
@@ -75,20 +75,20 @@ passed-none (x ∷ l) h (here w) = no-some (x .numbers) (h .0) w
 passed-none (x ∷ l) h (there w) = passed-none l (h .1) w
 
 -- the first bad one is a bad one
-in-slice : (v : List Float) (i : ℕ) → i < length v → NotFinite (getD v i nan) → Some NotFinite v
-in-slice [] i h b = absurd (omega arith)
-in-slice (x ∷ v) zero h b = here b
-in-slice (x ∷ v) (suc i) h b = there (in-slice v i (omega arith) b)
+in-slice : (v : List Float) (i : ℕ) → NotFinite (getD v i plusZero) → Some NotFinite v
+in-slice [] i b = absurd (two-ways refl b)
+in-slice (x ∷ v) zero b = here b
+in-slice (x ∷ v) (suc i) b = there (in-slice v i b)
 
 whence : {s : Slice} {i : ℕ} {l : List Input} → FirstBad s i l → Some (λ (x : Input). Some NotFinite (x .numbers)) l
-whence {i = i} (found {x = x} w) = here (in-slice (x .numbers) i (w .inside) (w .bad))
+whence {i = i} (found {x = x} w) = here (in-slice (x .numbers) i (w .has))
 whence (further n w) = there (whence w)
 
 -- and by none else
 pub words-search : {s : Slice} {i : ℕ} (l : List Input) → FirstBad s i l → searched l ≡ refused (NUMBER s i)
 unfolding searched
-words-search {i = i} (x ∷ l) (found w) = let z : 0 + i ≡ i = omega arith in rw (words-slice (x .slice) 0 (x .numbers) i w, z)
-words-search (x ∷ l) (further n w) = rw (none-bad (x .slice) 0 (x .numbers) (passes-where (all-finite (x .numbers)) n)) (words-search l w)
+words-search {i = i} (x ∷ l) (found w) = let z : 0 + i ≡ i = omega arith in rw (words-slice (x .name) 0 (x .numbers) i w, z)
+words-search (x ∷ l) (further n w) = rw (none-bad (x .name) 0 (x .numbers) (passes-where (all-finite (x .numbers)) n)) (words-search l w)
 
 -- there is one just where a number isn't finite
 pub some-bad : (l : List Input) → Some (λ (x : Input). Some NotFinite (x .numbers)) l ↔ ((s : Slice) × (i : ℕ) × FirstBad s i l)
@@ -109,7 +109,7 @@ no-bad l e w = refused-never (sym (words-search l w) ∙ e)
 pub finite-searched : (l : List Input) → Pass finiteIn l → searched l ≡ nothing
 unfolding searched
 finite-searched [] h = refl
-finite-searched (x ∷ l) h = rw (none-bad (x .slice) 0 (x .numbers) (h .0)) (finite-searched l (h .1))
+finite-searched (x ∷ l) h = rw (none-bad (x .name) 0 (x .numbers) (h .0)) (finite-searched l (h .1))
 
 pub none-finite : (l : List Input) → ((s : Slice) (i : ℕ) → FirstBad s i l → ⊥) → Pass finiteIn l
 none-finite l n = go (searched l) refl
@@ -120,25 +120,20 @@ none-finite l n = go (searched l) refl
 
 -- ---- half-turns
 
-later-turn : (k : Kind) (ks : List Kind) (i : ℕ) → (BadTurn k → ⊥) → ((j : ℕ) → j < i → BadTurn (getD ks j plain) → ⊥) → (j : ℕ) → j < suc i → BadTurn (getD (k ∷ ks) j plain) → ⊥
-later-turn k ks i n m zero h b = n b
-later-turn k ks i n m (suc j) h b = m j (omega arith) b
-
-half-turns : (ks : List Kind) (i : ℕ) → FirstIn (halves ks) i → FirstBadTurn ks i
-half-turns [] i w = absurd (omega (arith, w .inside))
-half-turns (k ∷ ks) zero w = (bad-turn k .fails (w .bad), λ j h. absurd (omega arith))
-half-turns (k ∷ ks) (suc i) w =
-    let v = half-turns ks i (record { inside = omega (arith, w .inside); bad = w .bad; before = λ j h b. w .before (suc j) (omega arith) b }) in
-    (v .0, later-turn k ks i (λ b. w .before 0 (omega arith) (fails-where (bad-turn k) b)) (v .1))
-
-turns-half : (ks : List Kind) (i : ℕ) → FirstBadTurn ks i → FirstIn (halves ks) i
-turns-half [] i w = absurd (bad-turn plain .passes refl (w .0))
-turns-half (k ∷ ks) zero w = first-zero (fails-where (bad-turn k) (w .0))
-turns-half (k ∷ ks) (suc i) w = first-next (passes-where (bad-turn k) (λ b. w .1 0 (omega arith) b)) (turns-half ks i (w .0, λ j h b. w .1 (suc j) (omega arith) b))
+half-at : (ks : List Kind) (i : ℕ) → getD (halves ks) i plusZero ≡ halfOf (getD ks i plain)
+half-at [] i = refl
+half-at (k ∷ ks) zero = refl
+half-at (k ∷ ks) (suc i) = half-at ks i
 
 -- THE FIRST BAD HALF-TURN is at the index of the first kind that is a turn by a number that isn't finite
 pub turn-at : (ks : List Kind) (i : ℕ) → FirstIn (halves ks) i ↔ FirstBadTurn ks i
-turn-at ks i = (half-turns ks i, turns-half ks i)
+turn-at ks i = (λ w. record { has = to i (w .has); before = λ j h b. w .before j h (from j b) }, λ w. record { has = from i (w .has); before = λ j h b. w .before j h (to j b) })
+  where
+    to : (j : ℕ) → NotFinite (getD (halves ks) j plusZero) → BadTurn (getD ks j plain)
+    to j b = bad-turn (getD ks j plain) .fails (sym (ap finite (half-at ks j)) ∙ b)
+
+    from : (j : ℕ) → BadTurn (getD ks j plain) → NotFinite (getD (halves ks) j plusZero)
+    from j b = ap finite (half-at ks j) ∙ fails-where (bad-turn (getD ks j plain)) b
 
 -- ---- the places that are told
 
@@ -153,6 +148,10 @@ placed (PIVOT j) = inr (inr (inl refl))
 placed (INNOV j) = inr (inr (inr refl))
 placed RANGE = inl refl
 placed KIND = inl refl
+
+pub placed-of : {A : Type 0} (o : Outcome A) → Placed (refusal o)
+placed-of (refused r) = placed r
+placed-of (accepted a) = inl refl
 
 pub placed-so : (v : Verdict) → (v ≡ taken) ⊎ ((r : Refusal) × (v ≡ verdict r)) → Placed v
 placed-so v w = ⊎-elim (λ e. rw e (inl refl)) (λ q. rw (q .1) (placed (q .0))) w

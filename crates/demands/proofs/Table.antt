@@ -9,7 +9,7 @@ use lib.Ieee.{Format}
 use lib.Ieee.Scale.{finite}
 use Rattle.floats.specs.Refusal.{Refusal, SIZE, SHORT, STAGE, STALE, NUMBER, PARAM, PIVOT, INNOV, RANGE, KIND, badLone, verdict, accepted, refusal, unless, onward, nothing}
 use Rattle.floats.specs.Search.{searched, searchedFrom}
-use Rattle.floats.proofs.Refusals.{number-of}
+use Rattle.floats.proofs.Refusals.{number-of, named}
 use Rattle.floats.specs.Numbers.{zeros}
 use Rattle.floats.specs.Fronts.{front}
 use Rattle.angles.specs.Kinds.{halfOf, passes, kindOf}
@@ -27,7 +27,7 @@ use Rattle.demands.specs.Rows.{Some, here, OutOfRange, searches, Ascendi
 use Rattle.demands.specs.Rows as Row
 use Rattle.demands.specs.Sound.{end, and}
 use Rattle.demands.proofs.Rows.{two-ways, passes-where, none, ranged}
-use Rattle.demands.proofs.Exactly.{step-told, exactly}
+use Rattle.demands.proofs.Exactly.{step-told, exactly, as-refused}
 use Rattle.demands.proofs.Passed.{Ran, ran-finish, ran-mapped, ran-either}
 use Rattle.demands.proofs.Listed.{drawing, open-prediction-lists, open-correction-lists, close-prediction-lists, close-correction-lists, close-correction-flat-lists}
 use Rattle.demands.proofs.ByStep.{StepsOwn, met-by-step, draw-own, correct-own}
@@ -173,15 +173,18 @@ module _ (f : Format) (s : Filter) (c : Call) where
       go false h = absurd (let z : _≡_ {A = ℕ} 3 0 = sym (number-of (stage-exactly .1 h)) ∙ e in omega arith)
 
   -- 10 is given by a flat close alone
-  pub kind-only : step f s c .reply .refusal ≡ verdict KIND → IsFlat c
-  kind-only e = regular f (seen s) c .only (by-row KIND (λ b. b) e .0)
+  pub kind-only : step f s c .reply .refusal .number ≡ 10 → IsFlat c
+  unfolding named
+  kind-only e = regular f (seen s) c .only (by-row KIND (λ b. b) (as-refused f s c (omega arith) e .1) .0)
 
   -- 4 is never given by a call that stale doesn't stop, nor 6 where nothing has to pass it
-  pub never-stale : asks (seen s) c .stale ≡ false → step f s c .reply .refusal ≢ verdict STALE
-  never-stale h e = two-ways (by-row STALE (λ b. b) e .0) h
+  pub never-stale : asks (seen s) c .stale ≡ false → step f s c .reply .refusal .number ≢ 4
+  unfolding named
+  never-stale h e = two-ways (by-row STALE (λ b. b) (as-refused f s c (omega arith) e .1) .0) h
 
-  pub never-param : asks (seen s) c .params ≡ [] → step f s c .reply .refusal ≢ verdict PARAM
-  never-param h e = none (rw h at by-row PARAM (λ b. b) e .0)
+  pub never-param : asks (seen s) c .params ≡ [] → step f s c .reply .refusal .number ≢ 6
+  unfolding named
+  never-param h e = none (rw h at by-row PARAM (λ b. b) (as-refused f s c (omega arith) e .1) .0)
 
   -- 1 is given for n outside 1 to 8, by every call that 3 doesn't stop
   pub states-first : OutOfRange (record { value = s .sheet .n; from = 1; to = 8 }) → fits c (s .track .stage) ≡ true → step f s c .reply .refusal ≡ verdict SIZE

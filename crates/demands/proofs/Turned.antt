@@ -44,7 +44,7 @@ not-open : {c : CloseCall} → IsOpen (closing c) → ⊥
 not-open w = elim w [ ]
 
 -- a number of slice s is the first bad one only once the slices of another name before it are finite
-past : {s : Slice} {i : ℕ} {x : Input} {l : List Input} → (x .slice ≡ s → ⊥) → FirstBad s i (x ∷ l) → (allFinite (x .numbers) ≡ true) × FirstBad s i l
+past : {s : Slice} {i : ℕ} {x : Input} {l : List Input} → (x .name ≡ s → ⊥) → FirstBad s i (x ∷ l) → (allFinite (x .numbers) ≡ true) × FirstBad s i l
 past n (found w) = absurd (n refl)
 past {x = x} n (further a w) = (passes-where (all-finite (x .numbers)) a, w)
 

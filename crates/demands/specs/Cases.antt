@@ -231,12 +231,12 @@ ten = replicate 10 nan
 abbrev pub drawnTen : List Float
 drawnTen = int 1 ∷ int 2 ∷ int 5 ∷ int 2 ∷ int 1 ∷ int 6 ∷ minus 3 ∷ int 2 ∷ int 1 ∷ minus 2 ∷ []
 
--- k ones; and ten with a NaN at i and, where a place comes after it, an infinity there
+-- k ones; and ten with an infinity at i and, where a place comes after it, a NaN there
 abbrev pub ones : ℕ → List Float
 ones k = replicate k (int 1)
 
 abbrev pub badAt : ℕ → List Float
-badAt i = set (set (ones 10) (i + 1) (inf true)) i nan
+badAt i = set (set (ones 10) (i + 1) nan) i (inf true)
 
 abbrev pub flawed : List Float
 flawed = four (int 1) (int 2) (int 2) (int 1)
@@ -279,6 +279,10 @@ placeStory =
     ∷ ("A5 the first of two half-turns", (searching flawed (ones 10) (two (int 1) (int 1)) (kindsOf bad bad Plain), placing 56 0 [] 4 0))
     ∷ ("A5 a plain kind keeps its place", (searching flawed (ones 10) (two (int 1) (int 1)) (kindsOf Plain bad Plain), placing 56 1 [] 4 0))
     ∷ ("A5 half-turns before 6", (searching flawed (ones 10) (two (int 1) (int 1)) (kindsOf (Turn (int 0)) bad Plain), placing 56 1 [] 4 0))
+    ∷ ("A5 of one measurement, no further", (closing (close-correction 1 (badAt 1) (badAt 1) (kindsOf bad bad Plain) (badAt 5)), placing 56 0 [] 4 0))
+    ∷ ("A5 of four, R to its end", (closing (close-correction 4 (badAt 3) (set (ones 16) 15 nan) (kindsOf bad bad bad) (set (ones 20) 19 nan)), placing 53 15 [] 4 0))
+    ∷ ("A5 of four, the points to their end", (closing (close-correction 4 (badAt 3) (ones 16) (kindsOf bad bad bad) (set (ones 20) 19 nan)), placing 54 19 [] 4 0))
+    ∷ ("A5 of four, z to its end", (closing (close-correction 4 (badAt 3) (ones 16) (kindsOf bad bad bad) (ones 20)), placing 55 3 [] 4 0))
     ∷ ("A5 the last of four", (closing (close-correction 4 (ones 4) (ones 16) (plain ∷ plain ∷ record { residual = Turn (int 0) } ∷ record { residual = Turn (inf false) } ∷ []) (ones 20)), placing 56 3 [] 4 0))
     ∷ ("A5 6 tells no place", (searching flawed (ones 10) (two (int 1) (int 1)) (kindsOf Plain (Turn (int 0)) Plain), placing 6 0 [] 4 0))
     ∷ ("A5 a pivot of S", (searching flawed (ones 10) (two (int 1) (int 1)) (kindsOf Plain Plain bad), placing 8 1 [] 4 0))
@@ -289,7 +293,22 @@ placeStory =
     ∷ ("A5 given up again", (abandon, placing 0 0 [] 4 0))
     ∷ ("A5 the second kind a turn", (writing (set-kind 1 (record { residual = Turn (int 180) })), placing 0 0 [] 4 0))
     ∷ ("A5 another correction", (setting (open-correction ten), placing 0 0 drawnTen 4 0))
+    ∷ ("A5 flat, z before 10", (closing (close-correction-flat 2 (badAt 1) flawed (ones 10)), placing 55 1 [] 4 0))
     ∷ ("A5 10 tells no place", (closing (close-correction-flat 2 (two (int 1) (int 1)) flawed (ones 10)), placing 10 0 [] 4 0))
+    ∷ []
+
+-- the same on the sides of a pair: two such states on one sheet
+abbrev pub bothOfTwo : Pair
+bothOfTwo = let x = two (int 1) (int 2) in let p = four (int 4) (int 0) (int 0) (int 4) in newPairAnswer binary64 2 x p x p (four (int 1) (int 0) (int 0) (int 1)) kappaTwo .pair
+
+abbrev pub sidesStory : List (String × (SideCall × Told))
+sidesStory =
+    ("A5 a state of the second", (by Second (setting (set-x (badAt 1))), placing 51 1 [] 4 0))
+    ∷ ("A5 a noise through the first", (by First (writing (set-q (badAt 3))), placing 53 3 [] 4 0))
+    ∷ ("A5 P of the second", (by Second (setting (set-p flawed)), placing 0 0 [] 1 2))
+    ∷ ("A5 a pivot of the second", (by Second (setting (open-prediction ten)), placing 7 1 [] 1 2))
+    ∷ ("A5 none of the first", (by First (setting (open-correction ten)), placing 0 0 drawnTen 4 0))
+    ∷ ("A5 a point of the first", (by First (searching flawed (badAt 4) (badAt 0) (kindsOf Plain Plain Plain)), placing 54 4 [] 4 0))
     ∷ []
 
 -- a refused New, of two states or of a pair, has no states (`refused-new` in Demand1 and Pairs has all of it)
@@ -344,6 +363,7 @@ leafCases =
     ∷ ("A5 root of an infinity", says (refusal (outcomeOf (answer (inf false)))) 56 0)
     ∷ ("A5 wrap of a NaN", says (wrapped (wrapOf binary64 nan (int 180)) .refusal) 56 0)
     ∷ ("A5 wrap by an infinity", says (wrapped (wrapOf binary64 (int 1) (inf false)) .refusal) 56 0)
+    ∷ ("A5 wrap of a NaN by 0", says (wrapped (wrapOf binary64 nan (int 0)) .refusal) 56 0)
     ∷ ("A5 wrap by 0", says (wrapped (wrapOf binary64 (int 1) (int 0)) .refusal) 6 0)
     ∷ ("A5 a turn by a NaN", says (refusal (kindOf binary64 (record { residual = Turn nan }))) 56 0)
     ∷ ("A5 a turn by an infinity", says (refusal (kindOf binary64 (record { residual = Turn (inf true) }))) 56 0)
@@ -372,13 +392,13 @@ placeCases =
     ∷ ("A5 New, Q before parameters", newIs fine fine (badAt 2) (params nan nan nan) 53 2)
     ∷ ("A5 New, beta before kappa", newIs fine fine fine (params (int 1) nan nan) 56 1)
     ∷ ("A5 New, 6", newIs fine fine fine unfit 6 0)
-    ∷ ("A5 New of a pair, the first x before all", newPairIs 2 (badAt 1) (badAt 0) (badAt 0) fine fine unfit 51 1)
+    ∷ ("A5 New of a pair, the first x before all", newPairIs 2 (badAt 1) (badAt 0) (badAt 0) (badAt 0) (badAt 0) (params nan nan nan) 51 1)
     ∷ ("A5 New of a pair, the first P before the second x", newPairIs 2 fine (badAt 2) (badAt 0) fine fine unfit 52 2)
     ∷ ("A5 New of a pair, the second x before its P", newPairIs 2 fine fine (badAt 1) (badAt 0) fine unfit 51 1)
     ∷ ("A5 New of a pair, the second P before Q", newPairIs 2 fine fine fine (badAt 3) (badAt 0) unfit 52 3)
     ∷ ("A5 New of a pair, Q before parameters", newPairIs 2 fine fine fine fine (badAt 2) (params nan nan nan) 53 2)
     ∷ ("A5 New of a pair, beta before kappa", newPairIs 2 fine fine fine fine fine (params (int 1) nan nan) 56 1)
-    ∷ against placeStory (told binary64 twoStates (map (λ e. e .1 .0) placeStory))
+    ∷ (against placeStory (told binary64 twoStates (map (λ e. e .1 .0) placeStory)) ++ against sidesStory (map (λ t. t .told) (pairTold binary64 bothOfTwo (map (λ e. e .1 .0) sidesStory))))
 
 abbrev pub pairCases : List (String × Bool)
 pairCases =

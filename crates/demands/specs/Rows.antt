@@ -5,7 +5,7 @@ use mathlib.Core.Bool.{true, false}
 use mathlib.Core.List.{List, [], _∷_, _++_}
 use mathlib.Core.Logic.{_⊎_, _≢_}
 use lib.ListN.{length, take, getD}
-use lib.Ieee.{Float, nan, Format, lt, add}
+use lib.Ieee.{Float, Format, lt, add}
 use lib.Ieee.Scale.{finite}
 use Rattle.floats.specs.declared.Slice.{Slice}
 use Rattle.floats.specs.declared.Slice.the-variants.{State, Covariance, Noise, Points, Measurement, Lone}
@@ -17,12 +17,12 @@ use Rattle.angles.specs.Kinds.{plain, halfOf}
 use Rattle.angles.specs.declared.Kind.{Kind}
 use Rattle.angles.specs.declared.Residual.{Residual}
 use Rattle.angles.specs.declared.Residual.the-variants.{Plain, Turn}
-use Rattle.matrix.specs.Results.{Result, numbers, pivot, rooting, refusalOf, planned}
+use Rattle.matrix.specs.Results.{Result, numbers, pivot, rooting, refusalOf}
 use Rattle.sigma.specs.Weights.{scaleOf, w0mOf, w0cOf, wiOf}
 use Rattle.filter.specs.declared.Filter.{Filter}
 use Rattle.filter.specs.Filters.{isCorrecting, seen}
 use Rattle.filter.specs.Asked.{Size, Lent, Param, by-params, by-kind, Asks}
-use Rattle.filter.specs.Calls.{CloseCall, Call, writing, setting, closing, abandon, reading, set-x, set-p, set-q, set-params, set-kind, open-prediction, open-correction, close-prediction, close-correction, close-correction-flat, halves, asks, plan}
+use Rattle.filter.specs.Calls.{CloseCall, Call, writing, setting, closing, abandon, reading, set-x, set-p, set-q, set-params, set-kind, open-prediction, open-correction, close-prediction, close-correction, close-correction-flat, halves, asks}
 
 -- one of the list has P
 pub data Some {A : Type 0} (P : A → Type 0) : List A → Type 0 where
@@ -46,18 +46,21 @@ OutOfRange s = (s .value < s .from) ⊎ (s .to < s .value)
 abbrev pub Shorter : Lent → Type 0
 Shorter l = length (l .slice) < l .needs
 
+-- the first of a list that has P is that at i; what stands past the end, d, doesn't have it
+pub record FirstAt {A : Type 0} (P : A → Type 0) (d : A) (l : List A) (i : ℕ) : Type 0 where
+  pub has : P (getD l i d)
+  pub before : (j : ℕ) → j < i → P (getD l j d) → ⊥
+
 -- 51 to 56: number i of a slice isn't finite, and all before it are;
-pub record FirstIn (v : List Float) (i : ℕ) : Type 0 where
-  pub inside : i < length v
-  pub bad : NotFinite (getD v i nan)
-  pub before : (j : ℕ) → j < i → NotFinite (getD v j nan) → ⊥
+abbrev pub FirstIn : List Float → ℕ → Type 0
+FirstIn = FirstAt NotFinite plusZero
 
 -- of the slices in the order of the search it is one named s that has it, and all numbers of those before it are finite (New of a pair has two states and two covariances)
 pub data FirstBad : Slice → ℕ → List Input → Type 0 where
-  found : {i : ℕ} {x : Input} {l : List Input} → FirstIn (x .numbers) i → FirstBad (x .slice) i (x ∷ l)
+  found : {i : ℕ} {x : Input} {l : List Input} → FirstIn (x .numbers) i → FirstBad (x .name) i (x ∷ l)
   further : {s : Slice} {i : ℕ} {x : Input} {l : List Input} → (Some NotFinite (x .numbers) → ⊥) → FirstBad s i l → FirstBad s i (x ∷ l)
 
--- what each call on a filter of n states searches: state, covariance, noise, points, measurement, lone values
+-- what each call on a filter of n states searches: state, covariance, noise, points, measurement, lone values (a flat close has no half-turns, an empty slice)
 abbrev pub searches : ℕ → Call → List Input
 searches n (setting (set-x v)) = input State (take n v)
 searches n (setting (set-p v)) = input Covariance (take (n * n) v)
@@ -75,7 +78,7 @@ searches n (reading c) = []
 -- slices in the order of their numbers, each once, after one of number k
 abbrev pub Ascending : ℕ → List Input → Type 0
 Ascending k [] = Unit {0}
-Ascending k (x ∷ l) = (k < sliceNumber (x .slice)) × Ascending (sliceNumber (x .slice)) l
+Ascending k (x ∷ l) = (k < sliceNumber (x .name)) × Ascending (sliceNumber (x .name)) l
 
 -- a half-turn that comes in isn't finite
 abbrev pub BadTurn : Kind → Type 0
@@ -83,7 +86,7 @@ BadTurn k = (h : Float) × (k .residual ≡ Turn h) × NotFinite h
 
 -- the first such kind is that at i
 abbrev pub FirstBadTurn : List Kind → ℕ → Type 0
-FirstBadTurn ks i = BadTurn (getD ks i plain) × ((j : ℕ) → j < i → BadTurn (getD ks j plain) → ⊥)
+FirstBadTurn = FirstAt BadTurn plain
 
 -- 10: a state kind is a turn
 abbrev pub IsTurn : Kind → Type 0
@@ -154,9 +157,9 @@ pub record Due (f : Format) (a : Asks) (vs : List Result) (r : Refusal) : Type 0
   pub applies : Applies f a vs cause
   pub no-earlier : (c : Cause) → rank c < rank cause → Applies f a vs c → ⊥
 
--- nothing is refused before the steps of a call
-abbrev pub Free : Format → Filter → Call → Type 0
-Free f s c = (d : Cause) → rank d < 7 → Applies f (asks (seen s) c) (planned (plan f (seen s) c)) d → ⊥
+-- no row before rank k applies to a call: with 4 nothing is refused before the search of its numbers, with 7 nothing before its steps
+abbrev pub Free : Format → ℕ → Filter → Call → Type 0
+Free f k s c = (d : Cause) → rank d < k → Applies f (asks (seen s) c) [] d → ⊥
 
 -- ---- what the steps of a call can give
 

@@ -8,9 +8,9 @@ use borrow.Author.Tests.{eqb-true, eqb-false, ne-eqb}
 use lib.Dec.{eqb}
 use lib.Ieee.{Float, Format}
 use Rattle.floats.specs.declared.Verdict.{Verdict}
-use Rattle.floats.specs.Refusal.{Refusal, number, Outcome, refused, accepted, refusal, or, onward, nothing}
+use Rattle.floats.specs.Refusal.{Refusal, Outcome, refused, accepted, refusal, or, onward, nothing}
 use Rattle.floats.specs.Search.{Input, searched}
-use Rattle.floats.proofs.Refusals.{number-of, earlier-refused}
+use Rattle.floats.proofs.Refusals.{number, number-of, earlier-refused}
 use Rattle.floats.proofs.Search.{searched-append, found-above}
 use Rattle.sigma.specs.declared.Params.{Params}
 use Rattle.filter.specs.Asked.{Lent, Param, by-params, Asks, within, long, fit, every, inOrder, guarded, firstRefusal}

@@ -9,7 +9,10 @@ use lib.Dec.{eqb}
 use Rattle.floats.specs.declared.Slice.{Slice}
 use Rattle.floats.specs.declared.Slice.the-variants.{State, Covariance, Noise, Points, Measurement, Lone}
 use Rattle.floats.specs.declared.Verdict.{Verdict}
-use Rattle.floats.specs.Refusal.{Refusal, SIZE, SHORT, STAGE, STALE, NUMBER, PARAM, PIVOT, INNOV, RANGE, KIND, sliceNumber, number, verdict, earlier, Outcome, refused, accepted, refusal, or, unless, onward}
+use Rattle.floats.specs.Refusal.{Refusal, SIZE, SHORT, STAGE, STALE, NUMBER, PARAM, PIVOT, INNOV, RANGE, KIND, sliceNumber, verdict, earlier, Outcome, refused, accepted, refusal, or, unless, onward}
+
+abbrev pub number : Refusal → ℕ
+number r = verdict r .number
 
 pub number-of : {v w : Verdict} → v ≡ w → v .number ≡ w .number
 number-of e = ap (λ (v : Verdict). v .number) e
@@ -36,7 +39,7 @@ number-above RANGE = omega arith
 number-above KIND = omega arith
 
 -- number and place give the refusal back
-named : Verdict → Refusal
+unfoldable pub named : Verdict → Refusal
 named v =
     cond (eqb (v .number) 1) SIZE
     (cond (eqb (v .number) 2) SHORT
@@ -75,9 +78,9 @@ named-verdict (NUMBER Lone i) = refl
 pub verdict-same : {q r : Refusal} → verdict q ≡ verdict r → q ≡ r
 verdict-same {q} {r} e = sym (named-verdict q) ∙ ap named e ∙ named-verdict r
 
-pub is-stage : (r : Refusal) → number r ≡ 3 → r ≡ STAGE
-unfolding named
-is-stage r e = sym (named-verdict r) ∙ ap (λ (k : ℕ). named (record { number = k; place = verdict r .place })) e
+-- so does its number, but for the place
+pub by-number : (r : Refusal) {k : ℕ} → number r ≡ k → r ≡ named (record { number = k; place = verdict r .place })
+by-number r e = sym (named-verdict r) ∙ ap (λ (k : ℕ). named (record { number = k; place = verdict r .place })) e
 
 module _ {A : Type 0} where
   pub refused-never : {r : Refusal} {a : A} → refused r ≡ accepted a → ⊥

@@ -9,10 +9,10 @@ use lib.Ieee.{Float, nan}
 use lib.Ieee.Scale.{finite}
 use Rattle.floats.specs.declared.Slice.{Slice}
 use Rattle.floats.specs.declared.Verdict.{Verdict}
-use Rattle.floats.specs.Refusal.{Refusal, NUMBER, number, verdict, taken, earlier, Outcome, refused, accepted, refusal, unless, onward, nothing}
+use Rattle.floats.specs.Refusal.{Refusal, NUMBER, verdict, taken, earlier, Outcome, refused, accepted, refusal, unless, onward, nothing}
 use Rattle.floats.specs.Numbers.{allFinite}
 use Rattle.floats.specs.Search.{Input, input, searchedFrom, searched}
-use Rattle.floats.proofs.Refusals.{slice-above, number-above, refused-never, earlier-onward}
+use Rattle.floats.proofs.Refusals.{number, slice-above, number-above, refused-never, earlier-onward}
 
 -- ---- one slice
 
@@ -50,26 +50,26 @@ bad-is s i (x ∷ v) r e = go (finite x) (bad-is s (i + 1) v r) e
 pub found-is : (l : List Input) (r : Refusal) → searched l ≡ refused r → (s : Slice) × (i : ℕ) × (r ≡ NUMBER s i)
 unfolding searched
 found-is [] r e = absurd (refused-never (sym e))
-found-is (s ∷ l) r e = go (searchedFrom (s .slice) 0 (s .numbers)) refl (found-is l r) e
+found-is (s ∷ l) r e = go (searchedFrom (s .name) 0 (s .numbers)) refl (found-is l r) e
   where
-    go : (o : Outcome Bool) → searchedFrom (s .slice) 0 (s .numbers) ≡ o → (searched l ≡ refused r → (c : Slice) × (i : ℕ) × (r ≡ NUMBER c i)) → onward o (λ (t : Bool). searched l) ≡ refused r → (c : Slice) × (i : ℕ) × (r ≡ NUMBER c i)
-    go (refused q) d k e = let z : q ≡ r = cc in let w = bad-is (s .slice) 0 (s .numbers) q d in (s .slice, w .0, sym z ∙ w .1)
+    go : (o : Outcome Bool) → searchedFrom (s .name) 0 (s .numbers) ≡ o → (searched l ≡ refused r → (c : Slice) × (i : ℕ) × (r ≡ NUMBER c i)) → onward o (λ (t : Bool). searched l) ≡ refused r → (c : Slice) × (i : ℕ) × (r ≡ NUMBER c i)
+    go (refused q) d k e = let z : q ≡ r = cc in let w = bad-is (s .name) 0 (s .numbers) q d in (s .name, w .0, sym z ∙ w .1)
     go (accepted t) d k e = k e
 
 -- where nothing is found in all, all of the first are finite and nothing is found in the rest
 pub first-good : (s : Input) (l : List Input) {t : Bool} → searched (s ∷ l) ≡ accepted t → (allFinite (s .numbers) ≡ true) × (searched l ≡ accepted t)
 unfolding searched
-first-good s l {t} e = go (searchedFrom (s .slice) 0 (s .numbers)) refl e
+first-good s l {t} e = go (searchedFrom (s .name) 0 (s .numbers)) refl e
   where
-    go : (o : Outcome Bool) → searchedFrom (s .slice) 0 (s .numbers) ≡ o → onward o (λ (u : Bool). searched l) ≡ accepted t → (allFinite (s .numbers) ≡ true) × (searched l ≡ accepted t)
+    go : (o : Outcome Bool) → searchedFrom (s .name) 0 (s .numbers) ≡ o → onward o (λ (u : Bool). searched l) ≡ accepted t → (allFinite (s .numbers) ≡ true) × (searched l ≡ accepted t)
     go (refused r) d e = absurd (refused-never e)
-    go (accepted u) d e = (all-good (s .slice) 0 (s .numbers) d, e)
+    go (accepted u) d e = (all-good (s .name) 0 (s .numbers) d, e)
 
 -- a search that tells 0 has come to nothing
 pub found-nothing : (l : List Input) → refusal (searched l) .number ≡ 0 → searched l ≡ nothing
 unfolding searched searchedFrom
 found-nothing [] e = refl
-found-nothing (s ∷ l) e = go (searchedFrom (s .slice) 0 (s .numbers)) (found-nothing l) e
+found-nothing (s ∷ l) e = go (searchedFrom (s .name) 0 (s .numbers)) (found-nothing l) e
   where
     go : (o : Outcome Bool) → (refusal (searched l) .number ≡ 0 → searched l ≡ nothing) → refusal (onward o (λ (t : Bool). searched l)) .number ≡ 0 → onward o (λ (t : Bool). searched l) ≡ nothing
     go (refused r) k e = absurd (omega (arith, number-above r))
@@ -81,7 +81,7 @@ found-above l r e = let w = found-is l r e in omega (arith, slice-above (w .0), 
 pub searched-append : (k l : List Input) → searched (k ++ l) ≡ onward (searched k) (λ (t : Bool). searched l)
 unfolding searched
 searched-append [] l = refl
-searched-append (s ∷ k) l = go (searchedFrom (s .slice) 0 (s .numbers)) (searched-append k l)
+searched-append (s ∷ k) l = go (searchedFrom (s .name) 0 (s .numbers)) (searched-append k l)
   where
     go : (o : Outcome Bool) → searched (k ++ l) ≡ onward (searched k) (λ (t : Bool). searched l) → onward o (λ (t : Bool). searched (k ++ l)) ≡ onward (onward o (λ (t : Bool). searched k)) (λ (t : Bool). searched l)
     go (refused r) e = refl

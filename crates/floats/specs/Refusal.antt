@@ -25,7 +25,7 @@ sliceNumber Lone = 56
 abbrev pub placeless : ℕ → Verdict
 placeless k = record { number = k; place = 0 }
 
--- what every answer says: a number and a place, which is 0 but for a bad number and a bad pivot
+-- what a refusal says: its number, and a place, which is 0 but for a bad number and a bad pivot
 abbrev pub verdict : Refusal → Verdict
 verdict SIZE = placeless 1
 verdict SHORT = placeless 2
@@ -38,9 +38,6 @@ verdict (INNOV j) = record { number = 8; place = j }
 verdict RANGE = placeless 9
 verdict KIND = placeless 10
 
-abbrev pub number : Refusal → ℕ
-number r = verdict r .number
-
 -- a bad number that stands alone: 56 at 0
 abbrev pub badLone : Refusal
 badLone = NUMBER Lone 0
@@ -49,7 +46,7 @@ badLone = NUMBER Lone 0
 abbrev pub taken : Verdict
 taken = placeless 0
 
--- of two that are looked for one after the other, the first that refuses
+-- of two that are looked for one after the other, the first that refuses; where the first doesn't, what the second says
 abbrev pub earlier : Verdict → Verdict → Verdict
 earlier a b = cond (eqb (a .number) 0) b a
 

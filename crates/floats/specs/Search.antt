@@ -9,13 +9,13 @@ use Rattle.floats.specs.Refusal.{NUMBER, Outcome, unless, onward, nothin
 
 -- a slice by its name, with those of its numbers that come in
 pub record Input : Type 0 where
-  pub slice : Slice
+  pub name : Slice
   pub numbers : List Float
 
 abbrev pub input : Slice → List Float → List Input
-input slice numbers = record { slice = slice; numbers = numbers } ∷ []
+input name numbers = record { name = name; numbers = numbers } ∷ []
 
--- the numbers of a slice from place i on
+-- numbers of a slice, the first of them at place i
 unfoldable pub searchedFrom : Slice → ℕ → List Float → Outcome Bool
 searchedFrom s i [] = nothing
 searchedFrom s i (x ∷ v) = unless (finite x) (NUMBER s i) (searchedFrom s (i + 1) v)
@@ -24,4 +24,4 @@ searchedFrom s i (x ∷ v) = unless (finite x) (NUMBER s i) (searchedFrom s (i +
 unfoldable pub searched : List Input → Outcome Bool
 unfolding searchedFrom
 searched [] = nothing
-searched (s ∷ l) = onward (searchedFrom (s .slice) 0 (s .numbers)) (λ (t : Bool). searched l)
+searched (s ∷ l) = onward (searchedFrom (s .name) 0 (s .numbers)) (λ (t : Bool). searched l)

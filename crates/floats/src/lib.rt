@@ -6,7 +6,7 @@ ghost use Rattle.floats.specs.Refusal.{sliceNumber, placeless, earlier, 
 ghost use Rattle.floats.specs.Search.{input, searched};
 ghost use Rattle.floats.specs.Numbers.{allFinite, aboveZero};
 
-// What lent numbers are, in the order in which they are searched; but New of a pair takes x and P of the second right after those of the first, and the number doesn't tell whose. The first bad one of a slice is told by its place there, from 0.
+// What the numbers that come in are, in the order in which they are searched; but New of a pair takes x and P of the second right after those of the first, and the number doesn't tell whose. The first bad one of a slice is told by its place there, from 0.
 pub enum Slice {
     // 51: x
     State,
@@ -75,7 +75,7 @@ pub fn placeless(number: u8) -> Verdict
     Verdict { number, place: 0 }
 }
 
-// Of two that are looked for one after the other, the first that refuses.
+// Of two that are looked for one after the other, the first that refuses; where the first doesn't, what the second says.
 pub fn earlier(a: Verdict, b: Verdict) -> Verdict
     ensures { λ r. ⌜ r ≡ earlier a b ⌝ }
 {

@@ -34,7 +34,7 @@ module _ (f : Format) (a : List Float) (n : ℕ) where
   abbrev pub Lower : List Float → Type 0
   Lower l = Part (λ (i j : ℕ). Unit {0}) l
 
-  -- the first j columns are right, so their pivots are good, and the pivot of row j, worked out from them, isn't finite or isn't above 0
+  -- the first j columns are right, so their pivots are good and their entries finite (else it would be 9), and the pivot of row j, worked out from them, isn't finite or isn't above 0
   pub record BadPivot (j : ℕ) : Type 0 where
     pub entries : List Float
     pub inside : j < n

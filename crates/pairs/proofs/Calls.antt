@@ -7,8 +7,8 @@ use lib.Dec.{eqb}
 use lib.Ieee.{Float, Format}
 use Rattle.floats.specs.Fronts.{over}
 use Rattle.floats.specs.declared.Verdict.{Verdict}
-use Rattle.floats.specs.Refusal.{Refusal, STAGE, number, verdict, Outcome, refused, accepted}
-use Rattle.floats.proofs.Refusals.{is-stage}
+use Rattle.floats.specs.Refusal.{Refusal, STAGE, verdict, Outcome, refused, accepted}
+use Rattle.floats.proofs.Refusals.{number, named, by-number}
 use Rattle.matrix.specs.Results.{finish, run}
 use Rattle.filter.specs.Asked.{guarded}
 use Rattle.filter.specs.declared.Filter.{Filter}
@@ -63,11 +63,12 @@ module _ (f : Format) (p : Pair) where
 
   -- 3 from the second
   second-open : (a : Outcome Done) → onBoth a (refused STAGE) ≡ kept (verdict STAGE)
+  unfolding named
   second-open (accepted d) = refl
   second-open (refused r) = go (eqb (number r) 3) (eqb-true _ _)
     where
       go : (t : Bool) → (t ≡ true → number r ≡ 3) → cond t (kept (verdict r)) (kept (verdict STAGE)) ≡ kept (verdict STAGE)
-      go true h = ap (λ (q : Refusal). kept (verdict q)) (is-stage r (h refl))
+      go true h = ap (λ (q : Refusal). kept (verdict q)) (by-number r (h refl))
       go false h = refl
 
   -- one outcome of both

@@ -9,7 +9,7 @@ use borrow.Author.Tests.{not-true, not-false}
 use native.Mathlib.Omega.{arith}
 use lib.Ieee.{Float, binary64, ofBits}
 use Rattle.floats.specs.declared.Verdict.{Verdict}
-use Rattle.floats.specs.Refusal.{Refusal, RANGE, number, verdict, taken, Outcome, refused, accepted}
+use Rattle.floats.specs.Refusal.{Refusal, RANGE, verdict, taken, Outcome, refused, accepted}
 use Rattle.floats.specs.Numbers.{zeros}
 use Rattle.matrix.specs.Results.{worked}
 use Rattle.matrix.specs.Factor.{refusedBy, factorOf}
