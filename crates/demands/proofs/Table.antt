@@ -3,7 +3,7 @@ use Prim.Native.Nat.{ℕ, _-_, _<_, _≤_}
 use mathlib.Core.Path.{_≡_, refl, sym, _∙_, subst}
 use mathlib.Core.Bool.{Bool, true, false, _&&_, cond}
 use mathlib.Core.List.{List, [], _∷_}
-use mathlib.Core.Logic.{_↔_, _≢_, inr, ⊎-elim}
+use mathlib.Core.Logic.{_↔_, _≢_, _⊎_, inl, inr, ⊎-elim}
 use native.Mathlib.Omega.{arith}
 use lib.Ieee.{Format}
 use lib.Ieee.Scale.{finite}
@@ -54,28 +54,28 @@ own-either c true e = e
 own-either c false e = end
 
 module _ (f : Format) (s : Filter) where
-  lined : {c : Call} {others : List Size} → asks s c .fits ≡ fits c (s .track .stage) → asks s c .sizes ≡ record { value = s .sheet .n; from = 1; to = 8 } ∷ others → (Some IsTurn (asks s c .plain) → IsFlat c) → StepsOwn c (planned (plan f s c))
+  lined : {c : Call} {others : List Size} → asks s c .fits ≡ fits c (s .track .stage) → asks s c .sizes ≡ record { value = s .sheet .n; from = 1; to = 8 } ∷ others → (asks s c .plain ≡ []) ⊎ IsFlat c → StepsOwn c (planned (plan f s c))
       → Ran (plan f s c) (λ (d : Done). Own c (d .change)) → Regular f s c
-  lined {c} {others} a b k m d = record { fitting = a; others = others; states = b; only = k; met = m; change = d }
+  lined {c} {others} a b k m d = record { fitting = a; others = others; states = b; only = λ w. ⊎-elim (λ e. absurd (none (subst (Some IsTurn) e w))) (λ y. y) k; met = m; change = d }
 
   pub regular : (c : Call) → Regular f s c
-  regular (writing (set-q v)) = lined refl refl (λ w. absurd (none w)) end (ran-finish _ _ (_, refl))
-  regular (writing (set-params p)) = lined refl refl (λ w. absurd (none w)) end (ran-finish _ _ (_, refl))
-  regular (writing (set-kind i k)) = lined refl refl (λ w. absurd (none w)) end (ran-finish _ _ (_, refl))
-  regular (setting (set-x v)) = lined refl refl (λ w. absurd (none w)) end (ran-finish _ _ (_, refl))
-  regular (setting (set-p v)) = lined refl refl (λ w. absurd (none w)) end (ran-finish _ _ (_, refl))
-  regular (setting (open-prediction b)) = lined refl refl (λ w. absurd (none w)) (rw (open-prediction-lists f s b) (draw-own _ f of-prediction (s .sheet .n) _ _ _)) (ran-mapped _ _ (drawing f s) (λ a e. (_, refl)))
-  regular (setting (open-correction b)) = lined refl refl (λ w. absurd (none w)) (rw (open-correction-lists f s b) (own-either _ (s .track .stale) (draw-own _ f of-correction (s .sheet .n) _ _ _))) (ran-either _ (s .track .stale) _ _ (λ t. ran-mapped _ _ (drawing f s) (λ a e. (_, refl))) (λ t. ran-finish _ _ (_, refl)))
-  regular (closing (close-prediction v)) = lined refl refl (λ w. absurd (none w)) (rw (close-prediction-lists f s v) (and (inr of-either) (and (inr of-either) end))) (ran-mapped _ (closed (s .track .«drawn_weights») (front (pointNumbers (s .sheet .n)) v (zeros 136)) false) (predicting f s v) (λ a e. (_, refl)))
-  regular (closing (close-correction m z r kinds observed)) = lined refl refl (λ w. absurd (none w)) (rw (close-correction-lists f s m z r kinds observed) (correct-own _ f of-either by-weights (weightedFrom f s m z r kinds observed))) (ran-mapped _ (closed (s .track .«drawn_weights») (s .track .«drawn_points») true) (applyPlan f (weightedFrom f s m z r kinds observed)) (λ a e. (_, refl)))
-  regular (closing (close-correction-flat m z r observed)) = lined refl refl (λ w. flat) (rw (close-correction-flat-lists f s m z r observed) (correct-own _ f of-either by-averages (flatFrom f s m z r observed))) (ran-mapped _ (closed (s .track .«drawn_weights») (s .track .«drawn_points») true) (applyPlan f (flatFrom f s m z r observed)) (λ a e. (_, refl)))
-  regular abandon = lined refl refl (λ w. absurd (none w)) end (ran-finish _ _ refl)
-  regular (reading (read-x b)) = lined refl refl (λ w. absurd (none w)) end (ran-finish _ _ refl)
-  regular (reading (read-p b)) = lined refl refl (λ w. absurd (none w)) end (ran-finish _ _ refl)
-  regular (reading (read-q b)) = lined refl refl (λ w. absurd (none w)) end (ran-finish _ _ refl)
-  regular (reading (read-points b)) = lined refl refl (λ w. absurd (none w)) end (ran-finish _ _ refl)
-  regular (reading read-params) = lined refl refl (λ w. absurd (none w)) end (ran-finish _ _ refl)
-  regular (reading read-stale) = lined refl refl (λ w. absurd (none w)) end (ran-finish _ _ refl)
+  regular (writing (set-q v)) = lined refl refl (inl refl) end (ran-finish _ _ (_, refl))
+  regular (writing (set-params p)) = lined refl refl (inl refl) end (ran-finish _ _ (_, refl))
+  regular (writing (set-kind i k)) = lined refl refl (inl refl) end (ran-finish _ _ (_, refl))
+  regular (setting (set-x v)) = lined refl refl (inl refl) end (ran-finish _ _ (_, refl))
+  regular (setting (set-p v)) = lined refl refl (inl refl) end (ran-finish _ _ (_, refl))
+  regular (setting (open-prediction b)) = lined refl refl (inl refl) (rw (open-prediction-lists f s b) (draw-own _ f of-prediction (s .sheet .n) _ _ _)) (ran-mapped _ _ (drawing f s) (λ a e. (_, refl)))
+  regular (setting (open-correction b)) = lined refl refl (inl refl) (rw (open-correction-lists f s b) (own-either _ (s .track .stale) (draw-own _ f of-correction (s .sheet .n) _ _ _))) (ran-either _ (s .track .stale) _ _ (λ t. ran-mapped _ _ (drawing f s) (λ a e. (_, refl))) (λ t. ran-finish _ _ (_, refl)))
+  regular (closing (close-prediction v)) = lined refl refl (inl refl) (rw (close-prediction-lists f s v) (and (inr of-either) (and (inr of-either) end))) (ran-mapped _ (closed (s .track .«drawn_weights») (front (pointNumbers (s .sheet .n)) v (zeros 136)) false) (predicting f s v) (λ a e. (_, refl)))
+  regular (closing (close-correction m z r kinds observed)) = lined refl refl (inl refl) (rw (close-correction-lists f s m z r kinds observed) (correct-own _ f of-either by-weights (weightedFrom f s m z r kinds observed))) (ran-mapped _ (closed (s .track .«drawn_weights») (s .track .«drawn_points») true) (applyPlan f (weightedFrom f s m z r kinds observed)) (λ a e. (_, refl)))
+  regular (closing (close-correction-flat m z r observed)) = lined refl refl (inr flat) (rw (close-correction-flat-lists f s m z r observed) (correct-own _ f of-either by-averages (flatFrom f s m z r observed))) (ran-mapped _ (closed (s .track .«drawn_weights») (s .track .«drawn_points») true) (applyPlan f (flatFrom f s m z r observed)) (λ a e. (_, refl)))
+  regular abandon = lined refl refl (inl refl) end (ran-finish _ _ refl)
+  regular (reading (read-x b)) = lined refl refl (inl refl) end (ran-finish _ _ refl)
+  regular (reading (read-p b)) = lined refl refl (inl refl) end (ran-finish _ _ refl)
+  regular (reading (read-q b)) = lined refl refl (inl refl) end (ran-finish _ _ refl)
+  regular (reading (read-points b)) = lined refl refl (inl refl) end (ran-finish _ _ refl)
+  regular (reading read-params) = lined refl refl (inl refl) end (ran-finish _ _ refl)
+  regular (reading read-stale) = lined refl refl (inl refl) end (ran-finish _ _ refl)
 
 -- what a call searches
 pub searches-so : (s : Filter) (c : Call) → asks s c .inputs ≡ searches (s .sheet .n) c

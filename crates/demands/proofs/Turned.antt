@@ -1,7 +1,7 @@
 -- 10 and a bad half-turn in words: a flat close gives 10 just where what it is lent would do and one of the first n kinds is a turn; a weighted one 56 at i just where the same would do and of its first m kinds that at i is the first turn by a number that isn't finite. Assumes nothing.
 use Prim.Native.Nat.{ℕ, _*_, _<_, _≤_}
 use mathlib.Core.Path.{_≡_, refl, ap, subst}
-use mathlib.Core.Bool.{Bool, true, false}
+use mathlib.Core.Bool.{true, false}
 use mathlib.Core.List.{List, [], _∷_, _++_}
 use mathlib.Core.Logic.{_↔_, ⊎-elim}
 use native.Mathlib.Omega.{arith}
@@ -28,6 +28,7 @@ use Rattle.demands.proofs.Exactly.{of-search, exactly}
 use Rattle.demands.proofs.Passed.{both-true, pass}
 use Rattle.demands.proofs.Places.{no-some, no-bad, finite-searched, none-finite, turn-at}
 use Rattle.demands.proofs.Table.{Asked, by-row}
+use Rattle.demands.proofs.Pivots.{number-exactly}
 use Rattle.demands.proofs.Fine.{in-range}
 
 in-range-is : (from to n : ℕ) → (from ≤ n) × (n ≤ to) → inRange from to n ≡ true
@@ -119,15 +120,8 @@ module _ (f : Format) (s : Filter) (m : ℕ) (z r : List Float) where
     weighing = closing (close-correction m z r kinds observed)
 
     pub half-turn-exactly : (i : ℕ) → (step f s weighing .reply .refusal ≡ verdict (NUMBER Lone i)) ↔ (Measurable s m z r observed × FirstBadTurn (take m kinds) i)
-    half-turn-exactly i = (
-      λ e.
-          let w = by-row f s weighing (NUMBER Lone i) (λ b. not-open (b .1)) e in
-          let q = last-searched (w .0) in
-          (measurable s m z r observed f _ _ _ _ (λ d l. w .1 d l) (q .0) (q .1) (q .2), turn-at (take m kinds) i .0 (q .3)),
-      λ h. exactly f s weighing (NUMBER Lone i) .1 (record {
-        cause = Row.number Lone i;
-        gives-it = refl;
-        applies = further (no-some _ (h .0 .finite-r)) (further (no-some _ (h .0 .finite-observed)) (further (no-some _ (h .0 .finite-z)) (found (turn-at (take m kinds) i .1 (h .1)))));
-        no-earlier = none-before s m z r observed f _ _ _ _ (h .0);
-      }),
-    )
+    half-turn-exactly i =
+        let e = number-exactly f s weighing not-open Lone i in (
+          λ x. let w = e .0 x in let q = last-searched (w .1) in (measurable s m z r observed f _ _ _ _ (w .0) (q .0) (q .1) (q .2), turn-at (take m kinds) i .0 (q .3)),
+          λ h. e .1 (none-before s m z r observed f _ _ _ _ (h .0), further (no-some _ (h .0 .finite-r)) (further (no-some _ (h .0 .finite-observed)) (further (no-some _ (h .0 .finite-z)) (found (turn-at (take m kinds) i .1 (h .1)))))),
+        )
