@@ -128,7 +128,7 @@ lentMeasured n m z r observed = lend z m ++ (lend r (m * m) ++ lend observed (ob
 abbrev pub inputsMeasured : ℕ → ℕ → List Float → List Float → List Float → List Float → List Input
 inputsMeasured n m z r observed turns = input Noise (take (m * m) r) ++ (input Points (take (observedNumbers n m) observed) ++ (input Measurement (take m z) ++ input Lone turns))
 
--- the same as the steps take it: the front of each slice, +0 past it
+-- z, R and the observed points as the steps take them: the front of each slice, +0 past it
 abbrev pub measurement : ℕ → ℕ → List Float → List Float → List Float → Intake
 measurement n m z r observed = record { refusal = taken; z = front m z (zeros 8); r = front (m * m) r (zeros 64); observed = front (observedNumbers n m) observed (zeros 136) }
 

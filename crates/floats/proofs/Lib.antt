@@ -1,4 +1,4 @@
--- `Refusals`: outcomes and their numbers. `Search`: the search of the numbers that come in. `Finite` and `Fronts`: lists of numbers. `Units` and `Grid`: exactness over the format.
+-- `Refusals`: outcomes, their numbers and places. `Search`: the search of the numbers that come in. `Finite` and `Fronts`: lists of numbers. `Units` and `Grid`: exactness over the format.
 pub mod Refusals
 pub mod Search
 pub mod Finite

@@ -1,4 +1,4 @@
--- Laws of outcomes and their numbers (specs/Refusal.antt): a refusal's number is not 0, so the number tells which it was. Assumes nothing.
+-- Laws of outcomes and what they say (specs/Refusal.antt): a refusal's number is not 0, so it tells a refused one from an accepted one; number and place give the refusal back; then the earlier of two. Assumes nothing.
 use Prim.Native.Nat.{ℕ, _<_}
 use mathlib.Core.Path.{_≡_, refl, sym, ap, _∙_}
 use mathlib.Core.Bool.{Bool, true, false, cond}
