@@ -208,7 +208,7 @@ module _ (f : Format) where
   pub new-searched-in-turn : (n : ℕ) (x p q : List Float) (params : Params) → Ascending 50 (newAsks n (from x p ∷ []) q params .inputs)
   new-searched-in-turn n x p q params = (omega arith, (omega arith, (omega arith, (omega arith, tt))))
 
-  -- So one of 51 to 56 is given at place i exactly when nothing is refused before the search (`Free`), and that is the slice and the place of the first bad number. (On bits that no call yields an open gives 56 at 0, for an N without a root.)
+  -- So one of 51 to 56 is given at place i exactly when nothing is refused before the search (`Free`), and that is the slice and the place of the first bad number. (Opens search nothing; on a filter that the demands don't speak of one may give 56 at 0, for an N without a root: `opening-prediction-never` below.)
   pub number-when : (s : Filter) (c : Call) → (IsOpen c → ⊥) → (t : Slice) (i : ℕ) → (step f s c .reply .refusal ≡ verdict (NUMBER t i)) ↔ (Free f 4 s c × FirstBad t i (searches (s .sheet .n) c))
   number-when = number-exactly f
 
@@ -227,7 +227,7 @@ module _ (f : Format) where
   pub innov-by-corrections-alone : (s : Filter) (c : Call) → step f s c .reply .refusal .number ≡ 8 → IsCorrection c
   innov-by-corrections-alone = innov-by-correction f
 
-  -- 7 tells the row of the first bad pivot: the columns before it are right, so their pivots are good and their entries finite (else it would be 9), and it isn't finite or isn't above 0 (`BadPivot`). An open gives it exactly when nothing is refused before its steps and row j of P is that row; an open correction has to be stale, as it draws only then;
+  -- 7 tells the row of the first bad pivot: the columns before it are right, so their pivots are good and their entries finite (else it would be 9), and it isn't finite or isn't above 0 (`BadPivot`). An open gives it exactly when nothing is refused before its steps and row j of P is that row; at the open of a correction the filter has to be stale, as points are drawn only then;
   pub pivot-at-open-prediction : (s : Filter) (b : List Float) (j : ℕ) → let c = setting (open-prediction b) in (step f s c .reply .refusal ≡ verdict (PIVOT j)) ↔ (Free f 7 s c × BadPivot f (s .track .p) (s .sheet .n) j)
   pivot-at-open-prediction = prediction-pivot f
 
@@ -252,7 +252,7 @@ module _ (f : Format) where
 
   -- ---- the steps' own numbers: the first result that fails, of those that document 01 lists, in its order
 
-  -- Open: each factor entry as it is made, then all points; not stale, an open correction has none.
+  -- Open: each factor entry as it is made, then N, whose root is taken, then all points; not stale, an open correction has none.
   pub listed-at-open-prediction : (s : Filter) (b : List Float) → planned (plan f s (setting (open-prediction b))) ≡ listedAtOpen f (s .sheet .n) (s .track .x) (s .track .p) (scaleOf f (s .sheet .n) (s .sheet .params))
   listed-at-open-prediction = open-prediction-lists f
 
@@ -273,7 +273,7 @@ module _ (f : Format) where
   pub listed-at-flat-correction : (s : Filter) (m : ℕ) (z r observed : List Float) → planned (plan f s (closing (close-correction-flat m z r observed))) ≡ listedAtCorrection f (flatFrom f s m z r observed)
   listed-at-flat-correction = close-correction-flat-lists f
 
-  -- The steps of an open give 7 and 9, and 56 at 0 for an N without a root; those of a close of a correction 8 and 9, of the close of a prediction 9; other calls give nothing by steps;
+  -- The steps of an open can give 7 and 9 alone, and 56 at 0 for an N without a root; those of a close of a correction 8 and 9 alone, of the close of a prediction 9 alone; other calls give nothing by steps;
   pub steps-give-their-own : (s : Filter) (c : Call) (r : Refusal) → FirstFails r (planned (plan f (seen s) c)) → ByStep c r
   steps-give-their-own = steps-give f
 

@@ -127,7 +127,7 @@ module _ (f : Format) where
   pub handed-back : (t : PairStepped) → (pairAnswered t .pair ≡ t .pair) × (pairAnswered t .refusal ≡ t .reply .refusal)
   handed-back t = (refl, refl)
 
-  -- New of a pair asks for 1 to 8 states, for five slices that are long enough, for finite numbers, x and P of the first, x and P of the second, Q and the parameters being searched in this order, so that 51 and 52 don't tell whose, and for parameters that pass 6;
+  -- New of a pair asks for 1 to 8 states, for five slices that are long enough, for finite numbers, x and P of the first, x and P of the second, Q and the parameters being searched in this order (each x is a state and each P a covariance, so 51 and 52 don't tell whose), and for parameters that pass 6;
   module _ (n : ℕ) (x₁ p₁ x₂ p₂ q : List Float) (params : Params) where
     pub new-asks : newPairAsks n x₁ p₁ x₂ p₂ q params ≡ record {
       fits = true;

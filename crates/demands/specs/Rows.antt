@@ -46,7 +46,7 @@ OutOfRange s = (s .value < s .from) ⊎ (s .to < s .value)
 abbrev pub Shorter : Lent → Type 0
 Shorter l = length (l .slice) < l .needs
 
--- the first of a list that has P is that at i; what stands past the end, d, doesn't have it
+-- the first of a list that has P is that at i; d stands past the end, and is to be one without P, as +0 and a plain kind below, so that i is inside the list
 pub record FirstAt {A : Type 0} (P : A → Type 0) (d : A) (l : List A) (i : ℕ) : Type 0 where
   pub has : P (getD l i d)
   pub before : (j : ℕ) → j < i → P (getD l j d) → ⊥
@@ -178,7 +178,7 @@ pub data IsCorrection : Call → Type 0 where
 pub data IsFlat : Call → Type 0 where
   flat : {m : ℕ} {z r observed : List Float} → IsFlat (closing (close-correction-flat m z r observed))
 
--- an open 7 at any row, and 56 at 0 for an N without a root; a close of a correction 8 at any row; each of these, and the close of a prediction, 9; another call nothing
+-- at the most: an open 7 at any row, and 56 at 0 for an N without a root; a close of a correction 8 at any row; each of these, and the close of a prediction, 9; another call nothing
 abbrev pub ByStep : Call → Refusal → Type 0
 ByStep c SIZE = ⊥
 ByStep c SHORT = ⊥
