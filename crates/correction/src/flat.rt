@@ -7,6 +7,7 @@ ghost use Rattle.sigma.specs.Predict.{moments};
 ghost use Rattle.correction.specs.Flat.{flatMeanAt, flatMeanOf, flatSpreadAt, flatSpreadOf, flatOf};
 use angles::Kind;
 use angles::Residual;
+use matrix::layout;
 use matrix::sums;
 use sigma::Moments;
 use sigma::spread;
@@ -81,7 +82,7 @@ fn flat_spread(a: &[f64; 136], da: usize, b: &[f64; 136], db: usize, t: usize) -
     while i < da {
         let mut j = 0usize;
         while j < db {
-            let at = sums::cell(i, db, j);
+            let at = layout::cell(i, db, j);
             out[at] = spread_at(a, da, i, b, db, j, t);
             j += 1;
         }

@@ -9,8 +9,9 @@ ghost use Rattle.correction.specs.Correct.{applyPlan, given, correctOf};
 use angles::Kind;
 use angles::Residual;
 use matrix::factor;
-use matrix::factor::Pivots;
 use matrix::inverse;
+use matrix::layout;
+use matrix::pivots::Pivots;
 use matrix::product;
 use matrix::sums;
 use sigma::Moments;
@@ -42,7 +43,7 @@ fn shifted(n: usize, m: usize, x: &[f64; 8], k: &[f64; 64], y: &[f64; 8]) -> [f6
     let mut out = [0.0f64; 8];
     let mut i = 0usize;
     while i < n {
-        let r = sums::row(i, m);
+        let r = layout::row(i, m);
         let mut s = 0.0;
         let mut j = 0usize;
         while j < m {

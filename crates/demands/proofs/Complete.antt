@@ -24,6 +24,8 @@ use Rattle.floats.proofs.placeless.Kinds as placeless-of
 use Rattle.floats.proofs.placeless.Reads as placeless
 use Rattle.floats.proofs.earlier.Kinds as earlier-of
 use Rattle.floats.proofs.earlier.Reads as earlier
+use Rattle.floats.proofs.slice_number.Kinds as slice-number-of
+use Rattle.floats.proofs.slice_number.Reads as slice-number
 use Rattle.floats.proofs.first_bad.Kinds as first-bad-of
 use Rattle.floats.proofs.first_bad.Reads as first-bad
 use Rattle.floats.proofs.next_bad.Kinds as next-bad-of
@@ -40,10 +42,10 @@ use Rattle.angles.proofs.kind_passes.Kinds as kind-passes-of
 use Rattle.angles.proofs.kind_passes.Reads as kind-passes
 use Rattle.angles.proofs.kind_refusal.Kinds as kind-refusal-of
 use Rattle.angles.proofs.kind_refusal.Reads as kind-refusal
-use Rattle.matrix.proofs.sums.row.Kinds as row-of
-use Rattle.matrix.proofs.sums.row.Reads as row
-use Rattle.matrix.proofs.sums.cell.Kinds as cell-of
-use Rattle.matrix.proofs.sums.cell.Reads as cell
+use Rattle.matrix.proofs.layout.row.Kinds as row-of
+use Rattle.matrix.proofs.layout.row.Reads as row
+use Rattle.matrix.proofs.layout.cell.Kinds as cell-of
+use Rattle.matrix.proofs.layout.cell.Reads as cell
 use Rattle.matrix.proofs.sums.dot.Kinds as dot-of
 use Rattle.matrix.proofs.sums.dot.Reads as dot
 use Rattle.matrix.proofs.sums.less.Kinds as less-of
@@ -52,6 +54,8 @@ use Rattle.matrix.proofs.sums.plus.Kinds as plus-of
 use Rattle.matrix.proofs.sums.plus.Reads as plus
 use Rattle.matrix.proofs.sums.minus.Kinds as minus-of
 use Rattle.matrix.proofs.sums.minus.Reads as minus
+use Rattle.matrix.proofs.pivots.refused_by.Kinds as refused-by-of
+use Rattle.matrix.proofs.pivots.refused_by.Reads as refused-by
 use Rattle.matrix.proofs.factor.cholesky_decompose_lower.Kinds as cholesky-decompose-lower-of
 use Rattle.matrix.proofs.factor.cholesky_decompose_lower.Reads as cholesky-decompose-lower
 use Rattle.matrix.proofs.inverse.invert_l_cholesky.Kinds as invert-l-cholesky-of
@@ -86,6 +90,28 @@ use Rattle.correction.proofs.correct_with_weights_residuals.Kinds as correct-wi
 use Rattle.correction.proofs.correct_with_weights_residuals.Reads as correct-with-weights-residuals
 use Rattle.correction.proofs.flat.correct_nonlinear.Kinds as correct-nonlinear-of
 use Rattle.correction.proofs.flat.correct_nonlinear.Reads as correct-nonlinear
+use Rattle.filter.proofs.checks.early_refusal.Kinds as early-refusal-of
+use Rattle.filter.proofs.checks.early_refusal.Reads as early-refusal
+use Rattle.filter.proofs.checks.first_refusal.Kinds as first-refusal-of
+use Rattle.filter.proofs.checks.first_refusal.Reads as first-refusal
+use Rattle.filter.proofs.checks.is_shut.Kinds as is-shut-of
+use Rattle.filter.proofs.checks.is_shut.Reads as is-shut
+use Rattle.filter.proofs.checks.is_predicting.Kinds as is-predicting-of
+use Rattle.filter.proofs.checks.is_predicting.Reads as is-predicting
+use Rattle.filter.proofs.checks.is_correcting.Kinds as is-correcting-of
+use Rattle.filter.proofs.checks.is_correcting.Reads as is-correcting
+use Rattle.filter.proofs.checks.in_range.Kinds as in-range-of
+use Rattle.filter.proofs.checks.in_range.Reads as in-range
+use Rattle.filter.proofs.checks.is_sized.Kinds as is-sized-of
+use Rattle.filter.proofs.checks.is_sized.Reads as is-sized
+use Rattle.filter.proofs.checks.both.Kinds as both-of
+use Rattle.filter.proofs.checks.both.Reads as both
+use Rattle.filter.proofs.checks.square.Kinds as square-of
+use Rattle.filter.proofs.checks.square.Reads as square
+use Rattle.filter.proofs.checks.point_numbers.Kinds as point-numbers-of
+use Rattle.filter.proofs.checks.point_numbers.Reads as point-numbers
+use Rattle.filter.proofs.checks.last_point.Kinds as last-point-of
+use Rattle.filter.proofs.checks.last_point.Reads as last-point
 use Rattle.filter.proofs.Sheet.new.Kinds as new-sheet-of
 use Rattle.filter.proofs.Sheet.new.Reads as new-sheet
 use Rattle.filter.proofs.Track.new.Kinds as new-track-of
@@ -196,7 +222,7 @@ pub by : {A : Type 0} {x y d : A} → x ≡ d → y ≡ d → x ≡ y
 by p q = p ∙ sym q
 
 -- the one lent buffer, after self
-lent : {l m : List Float} → l ≡ m → _≡_ {A = Unit {0} × (List Float × Unit {0})} (tt, (l, tt)) (tt, (m, tt))
+pub lent : {l m : List Float} → l ≡ m → _≡_ {A = Unit {0} × (List Float × Unit {0})} (tt, (l, tt)) (tt, (m, tt))
 lent e = ap (λ (l : List Float). (tt, (l, tt))) e
 
 -- ---- THE TABLE: a line for each public function
@@ -215,6 +241,9 @@ placeless-one κs a z z′ w w′ p q = (by p q, refl)
 
 pub earlier-one : OneAnswer earlier-of.ps earlier-of.r earlier.Learnt
 earlier-one κs a z z′ w w′ p q = (by p q, refl)
+
+pub slice-number-one : OneAnswer slice-number-of.ps slice-number-of.r slice-number.Learnt
+slice-number-one κs a z z′ w w′ p q = (by p q, refl)
 
 pub first-bad-one : OneAnswer first-bad-of.ps first-bad-of.r first-bad.Learnt
 first-bad-one κs a z z′ w w′ p q = (by p q, refl)
@@ -257,6 +286,9 @@ plus-one κs a z z′ w w′ p q = (by p q, refl)
 
 pub minus-one : OneAnswer minus-of.ps minus-of.r minus.Learnt
 minus-one κs a z z′ w w′ p q = (by p q, refl)
+
+pub refused-by-one : OneAnswer refused-by-of.ps refused-by-of.r refused-by.Learnt
+refused-by-one κs a z z′ w w′ p q = (by p q, refl)
 
 pub cholesky-decompose-lower-one : OneAnswer cholesky-decompose-lower-of.ps cholesky-decompose-lower-of.r cholesky-decompose-lower.Learnt
 cholesky-decompose-lower-one κs a z z′ w w′ p q = (by p q, refl)
@@ -308,6 +340,39 @@ correct-with-weights-residuals-one κs a z z′ w w′ p q = (by p q, refl)
 
 pub correct-nonlinear-one : OneAnswer correct-nonlinear-of.ps correct-nonlinear-of.r correct-nonlinear.Learnt
 correct-nonlinear-one κs a z z′ w w′ p q = (by p q, refl)
+
+pub early-refusal-one : OneAnswer early-refusal-of.ps early-refusal-of.r early-refusal.Learnt
+early-refusal-one κs a z z′ w w′ p q = (by p q, refl)
+
+pub first-refusal-one : OneAnswer first-refusal-of.ps first-refusal-of.r first-refusal.Learnt
+first-refusal-one κs a z z′ w w′ p q = (by p q, refl)
+
+pub is-shut-one : OneAnswer is-shut-of.ps is-shut-of.r is-shut.Learnt
+is-shut-one κs a z z′ w w′ p q = (by p q, refl)
+
+pub is-predicting-one : OneAnswer is-predicting-of.ps is-predicting-of.r is-predicting.Learnt
+is-predicting-one κs a z z′ w w′ p q = (by p q, refl)
+
+pub is-correcting-one : OneAnswer is-correcting-of.ps is-correcting-of.r is-correcting.Learnt
+is-correcting-one κs a z z′ w w′ p q = (by p q, refl)
+
+pub in-range-one : OneAnswer in-range-of.ps in-range-of.r in-range.Learnt
+in-range-one κs a z z′ w w′ p q = (by p q, refl)
+
+pub is-sized-one : OneAnswer is-sized-of.ps is-sized-of.r is-sized.Learnt
+is-sized-one κs a z z′ w w′ p q = (by p q, refl)
+
+pub both-one : OneAnswer both-of.ps both-of.r both.Learnt
+both-one κs a z z′ w w′ p q = (by p q, refl)
+
+pub square-one : OneAnswer square-of.ps square-of.r square.Learnt
+square-one κs a z z′ w w′ p q = (by p q, refl)
+
+pub point-numbers-one : OneAnswer point-numbers-of.ps point-numbers-of.r point-numbers.Learnt
+point-numbers-one κs a z z′ w w′ p q = (by p q, refl)
+
+pub last-point-one : OneAnswer last-point-of.ps last-point-of.r last-point.Learnt
+last-point-one κs a z z′ w w′ p q = (by p q, refl)
 
 pub new-sheet-one : OneAnswer new-sheet-of.ps new-sheet-of.r new-sheet.Learnt
 new-sheet-one κs a z z′ w w′ p q = (by p q, refl)

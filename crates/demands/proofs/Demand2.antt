@@ -11,14 +11,14 @@ use lib.IntN.{pos}
 use lib.ListN.{getD, take}
 use lib.Ieee.{Float, nan, Format, binary64, fits, add, sub, mul, div, ofInt}
 use lib.Ieee.Scale.{finite}
-use Rattle.floats.specs.Refusal.{Refusal, PIVOT, taken, accepted}
+use Rattle.floats.specs.Refusal.{Refusal, PIVOT, taken, Outcome, accepted}
 use Rattle.floats.specs.Numbers.{plusZero, zeros}
 use Rattle.floats.specs.Fronts.{front}
 use Rattle.root.specs.Definition.{rootOf, rooted}
 use Rattle.root.specs.Nearest.{Nearest}
-use Rattle.root.specs.Answer.{outcomeOf, rootOutcome, answer, Asked}
+use Rattle.root.specs.Answer.{outcomeOf, rootOutcome, Asked}
 use Rattle.root.specs.declared.Root.{Root}
-use Rattle.root.proofs.Answers.{nearest-root, outcome-answer, asked, asked-only}
+use Rattle.root.proofs.Answers.{nearest-root, one-case, asked, asked-only}
 use Rattle.angles.specs.Wrap.{wrapOf, wrapped}
 use Rattle.angles.specs.Exact.{Wraps}
 use Rattle.angles.specs.Kinds.{plain, throughOf, kindOf}
@@ -72,16 +72,16 @@ cell-before i k n j h l = omega (arith, row-before i k n h)
 pub root-nearest : (f : Format) (x : Float) → T (fits f x) → T (rooted x) → Nearest f x (rootOf f x)
 root-nearest = nearest-root
 
--- the case of the enum with that outcome is `answer`,
-pub root-answer : (x : Float) → outcomeOf (answer x) ≡ rootOutcome binary64 x
-root-answer = outcome-answer
-
--- and for every f64 it is what document 01 asks, and nothing else is
-pub root-asked : (x : Float) → T (fits binary64 x) → Asked x (answer x)
+-- for every value of the format the outcome is what document 01 asks, and nothing else is
+pub root-asked : (f : Format) (x : Float) → T (fits f x) → Asked f x (rootOutcome f x)
 root-asked = asked
 
-pub root-only : (x : Float) (a : Root) → T (fits binary64 x) → Asked x a → a ≡ answer x
+pub root-only : (f : Format) (x : Float) (o : Outcome Float) → T (fits f x) → Asked f x o → o ≡ rootOutcome f x
 root-only = asked-only
+
+-- so of two answers with such an outcome each is the other
+pub root-one : (x : Float) (a b : Root) → T (fits binary64 x) → Asked binary64 x (outcomeOf a) → Asked binary64 x (outcomeOf b) → a ≡ b
+root-one x a b h k l = one-case a b (asked-only binary64 x (outcomeOf a) h k ∙ sym (asked-only binary64 x (outcomeOf b) h l))
 
 module _ (f : Format) where
   -- ---- Wrap: `wrap` (crate angles) is `wrapOf`; `through_kind` is `throughOf`

@@ -10,7 +10,7 @@ use Rattle.floats.specs.declared.Verdict.{Verdict}
 use Rattle.floats.specs.Refusal.{PIVOT, placeless, taken, Outcome, refused, accepted, refusal, or}
 use Rattle.floats.specs.Numbers.{zeros}
 use Rattle.floats.specs.Fronts.{front}
-use Rattle.root.specs.Answer.{outcomeOf, answer}
+use Rattle.root.specs.Answer.{rootOutcome}
 use Rattle.angles.specs.Wrap.{wrapOf, wrapped}
 use Rattle.angles.specs.Kinds.{plain, kindOf}
 use Rattle.angles.specs.declared.Kind.{Kind}
@@ -60,7 +60,7 @@ accepts (refused r) v = false
 accepts (accepted u) v = u is v
 
 abbrev pub rootIs : Float → Float → Bool
-rootIs x r = accepts (outcomeOf (answer x)) r
+rootIs x r = accepts (rootOutcome binary64 x) r
 
 -- the wrap of d by 180
 abbrev pub wrapIs : Float → Float → Bool
@@ -359,8 +359,8 @@ leafCases =
     ∷ ("A5 a factor entry", says (refusal (worked (factorOf binary64 PIVOT (rows (two-to-minus 1022) (int 0) (two-to 600) (int 1)) 2))) 9 0)
     ∷ ("A5 point 5 of five", says (pointRefusal binary64 (ones 10) 2 5) 1 0)
     ∷ ("A5 point 4, whose numbers aren't judged", says (pointRefusal binary64 (badAt 8) 2 4) 0 0)
-    ∷ ("A5 root of −1", says (refusal (outcomeOf (answer (minus 1)))) 56 0)
-    ∷ ("A5 root of an infinity", says (refusal (outcomeOf (answer (inf false)))) 56 0)
+    ∷ ("A5 root of −1", says (refusal (rootOutcome binary64 (minus 1))) 56 0)
+    ∷ ("A5 root of an infinity", says (refusal (rootOutcome binary64 (inf false))) 56 0)
     ∷ ("A5 wrap of a NaN", says (wrapped (wrapOf binary64 nan (int 180)) .refusal) 56 0)
     ∷ ("A5 wrap by an infinity", says (wrapped (wrapOf binary64 (int 1) (inf false)) .refusal) 56 0)
     ∷ ("A5 wrap of a NaN by 0", says (wrapped (wrapOf binary64 nan (int 0)) .refusal) 56 0)

@@ -4,12 +4,17 @@ use mathlib.Core.Bool.{true, false, cond}
 use mathlib.Core.List.{List, []}
 use lib.ListN.{take, drop}
 use lib.Dec.{eqb}
-use lib.Ieee.{Float, Format}
+use lib.Ieee.{Float, Format, binary32, binary64}
 use Rattle.floats.specs.declared.Verdict.{Verdict}
 use Rattle.floats.specs.Refusal.{Outcome, accepted, refusal, or}
 use Rattle.sigma.specs.Draw.{pointNumbers}
 use Rattle.filter.specs.Asked.{Asks, guarded}
 use Rattle.filter.specs.Calls.{sized, lend, line}
+
+-- the bytes of a number
+abbrev pub bytes : Format → ℕ
+bytes binary32 = 4
+bytes binary64 = 8
 
 module _ (f : Format) (l : List Float) (n k : ℕ) where
   -- it needs the whole n(2n+1) numbers and doesn't judge them
@@ -29,7 +34,7 @@ module _ (f : Format) (l : List Float) (n k : ℕ) where
   unfolding pointAt
   pointOf = or [] pointAt
 
-  -- where the part begins: a block, and an offset in bytes, 8 for each number before it; of a refusal, where the list begins
+  -- where the part begins: a block, and an offset in bytes, those of the numbers before it; of a refusal, where the list begins
   unfoldable pub pointStart : ℕ × ℕ → ℕ × ℕ
   unfolding pointRefusal
-  pointStart at = (at .0, cond (eqb (pointRefusal .number) 0) (k * n * 8 + at .1) (0 * 8 + at .1))
+  pointStart at = (at .0, cond (eqb (pointRefusal .number) 0) (k * n * bytes f + at .1) (0 * bytes f + at .1))

@@ -7,6 +7,7 @@ use crate::Answer;
 use crate::Filter;
 use crate::Stage;
 use crate::Track;
+use crate::checks;
 use crate::fronts;
 use crate::measurement;
 use crate::tests;
@@ -56,8 +57,8 @@ impl Filter {
         let track = self.track;
         let n = sheet.n;
         let stage = track.stage;
-        let predicting = tests::is_predicting(stage);
-        let k = tests::point_numbers(n, n);
+        let predicting = checks::is_predicting(stage);
+        let k = checks::point_numbers(n, n);
         let refusal = tests::slice_refusal(predicting, n, k, Slice::Points, points);
         if refusal.number != 0 {
             return Answer {
@@ -89,7 +90,7 @@ impl Filter {
         let track = self.track;
         let n = sheet.n;
         let stage = track.stage;
-        let correcting = tests::is_correcting(stage);
+        let correcting = checks::is_correcting(stage);
         let turns = tests::halves(kinds);
         let passing = tests::kinds_pass(m, kinds);
         let lent = measurement::take_in(correcting, n, m, z, r, observed, &turns, m, true, passing);
@@ -135,7 +136,7 @@ impl Filter {
         let track = self.track;
         let n = sheet.n;
         let stage = track.stage;
-        let correcting = tests::is_correcting(stage);
+        let correcting = checks::is_correcting(stage);
         let kinds = sheet.kinds;
         let plain = tests::all_plain(n, kinds);
         let turns = [0.0; 4];

@@ -3,6 +3,7 @@ use angles::Kind;
 use floats::Verdict;
 use sigma::Params;
 
+pub mod checks;
 pub mod closes;
 mod drawn;
 mod fronts;

@@ -2,6 +2,7 @@
 ghost use mathlib.Core.Path.{_≡_};
 ghost use lib.ListN.{take};
 ghost use Rattle.filter.specs.Measurement.{takenIn, unmeasured, measured};
+use crate::checks;
 use crate::fronts;
 use crate::tests;
 use floats::Slice;
@@ -42,17 +43,17 @@ pub fn take_in(
 ) -> Intake
     ensures { λ q. ⌜ q ≡ measured (takenIn (record { fits = fits; n = n; m = m; z = now (z .entry); r = now (r .entry); observed = now (observed .entry); turns = take t (now (turns .entry)); plain = plain; passing = passing })) ⌝ }
 {
-    let states = tests::is_sized(n);
-    let measurements = tests::in_range(1, 4, m);
-    let sized = tests::both(states, measurements);
-    let mm = tests::square(m);
-    let k = tests::point_numbers(n, m);
+    let states = checks::is_sized(n);
+    let measurements = checks::in_range(1, 4, m);
+    let sized = checks::both(states, measurements);
+    let mm = checks::square(m);
+    let k = checks::point_numbers(n, m);
     let long = tests::all_long(z, m, r, mm, observed, k);
     let in_noise = floats::first_bad(Slice::Noise, r, mm);
     let in_points = floats::next_bad(in_noise, Slice::Points, observed, k);
     let in_measurement = floats::next_bad(in_points, Slice::Measurement, z, m);
     let found = floats::next_bad(in_measurement, Slice::Lone, turns, t);
-    let refusal = tests::first_refusal(fits, sized, long, false, found, plain, passing);
+    let refusal = checks::first_refusal(fits, sized, long, false, found, plain, passing);
     if refusal.number != 0 {
         return refuse(refusal);
     }

@@ -7,6 +7,7 @@ use crate::Filter;
 use crate::Sheet;
 use crate::Stage;
 use crate::Track;
+use crate::checks;
 use crate::fronts;
 use crate::tests;
 use angles::Kind;
@@ -80,13 +81,13 @@ impl Sheet {
     pub fn new(n: usize, q: &[f64], params: Params) -> NewSheet
         ensures { λ r. ⌜ r ≡ newSheet binary64 n (now (q .entry)) params ⌝ }
     {
-        let k = tests::square(n);
-        let sized = tests::is_sized(n);
+        let k = checks::square(n);
+        let sized = checks::is_sized(n);
         let values = tests::values(params);
         let in_noise = floats::first_bad(Slice::Noise, q, k);
         let found = floats::next_bad(in_noise, Slice::Lone, &values, 3);
         let passing = tests::params_pass(n, params);
-        let refusal = tests::first_refusal(true, sized, k <= q.len(), false, found, true, passing);
+        let refusal = checks::first_refusal(true, sized, k <= q.len(), false, found, true, passing);
         if refusal.number != 0 {
             let sheet = empty_sheet();
             return NewSheet { refusal, sheet };
@@ -101,12 +102,12 @@ impl Track {
     pub fn new(n: usize, x: &[f64], p: &[f64]) -> NewTrack
         ensures { λ r. ⌜ r ≡ newTrack binary64 n (from (now (x .entry)) (now (p .entry))) ⌝ }
     {
-        let k = tests::square(n);
-        let sized = tests::is_sized(n);
-        let long = tests::both(n <= x.len(), k <= p.len());
+        let k = checks::square(n);
+        let sized = checks::is_sized(n);
+        let long = checks::both(n <= x.len(), k <= p.len());
         let in_state = floats::first_bad(Slice::State, x, n);
         let found = floats::next_bad(in_state, Slice::Covariance, p, k);
-        let refusal = tests::first_refusal(true, sized, long, false, found, true, true);
+        let refusal = checks::first_refusal(true, sized, long, false, found, true, true);
         if refusal.number != 0 {
             let track = empty_track();
             return NewTrack { refusal, track };

@@ -14,9 +14,9 @@ use crate::Answer;
 use crate::Filter;
 use crate::Stage;
 use crate::Weighted;
+use crate::checks;
 use crate::drawn;
 use crate::fronts;
-use crate::tests;
 use sigma::draw;
 use sigma::weights;
 
@@ -28,7 +28,7 @@ impl Filter {
         ensures { λ r. ⌜ now (out .exit) ≡ over (take (pointNumbers (self .sheet .n)) (d .points)) (now (out .entry)) ⌝ }
     {
         let n = self.sheet.n;
-        let k = tests::point_numbers(n, n);
+        let k = checks::point_numbers(n, n);
         let points = d.points;
         fronts::copy_front(&points, k, out);
         let sheet = self.sheet;
@@ -50,10 +50,10 @@ impl Filter {
         let track = self.track;
         let n = sheet.n;
         let before = track.stage;
-        let shut = tests::is_shut(before);
-        let sized = tests::is_sized(n);
-        let k = tests::point_numbers(n, n);
-        let refusal = tests::early_refusal(shut, sized, k <= out.len(), false);
+        let shut = checks::is_shut(before);
+        let sized = checks::is_sized(n);
+        let k = checks::point_numbers(n, n);
+        let refusal = checks::early_refusal(shut, sized, k <= out.len(), false);
         if refusal.number != 0 {
             return Answer {
                 filter: self,
@@ -61,8 +61,8 @@ impl Filter {
             };
         }
         let stale = track.stale;
-        let correcting = tests::is_correcting(stage);
-        if tests::both(correcting, !stale) {
+        let correcting = checks::is_correcting(stage);
+        if checks::both(correcting, !stale) {
             let weights = track.weights;
             let points = track.points;
             return self.opened(stage, Weighted { weights, points }, out);
@@ -105,9 +105,9 @@ impl Filter {
         let before = self.track;
         let n = sheet.n;
         let stage = before.stage;
-        let shut = tests::is_shut(stage);
-        let sized = tests::is_sized(n);
-        let refusal = tests::early_refusal(!shut, sized, true, false);
+        let shut = checks::is_shut(stage);
+        let sized = checks::is_sized(n);
+        let refusal = checks::early_refusal(!shut, sized, true, false);
         if refusal.number != 0 {
             return Answer {
                 filter: self,

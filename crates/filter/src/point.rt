@@ -3,17 +3,17 @@ ghost use mathlib.Core.Path.{_≡_};
 ghost use lib.Ieee.{binary64};
 ghost use denote.Ref.{ptr};
 ghost use Rattle.filter.specs.Point.{pointRefusal, pointOf, pointStart};
-use crate::tests;
+use crate::checks;
 use floats::Verdict;
 
 pub fn point_refusal(list: &[f64], n: usize, k: usize) -> Verdict
     ensures { λ r. ⌜ r ≡ pointRefusal binary64 (now (list .entry)) n k ⌝ }
 {
-    let states = tests::is_sized(n);
-    let last = tests::last_point(n);
-    let sized = tests::both(states, k <= last);
-    let numbers = tests::point_numbers(n, n);
-    tests::early_refusal(true, sized, numbers <= list.len(), false)
+    let states = checks::is_sized(n);
+    let last = checks::last_point(n);
+    let sized = checks::both(states, k <= last);
+    let numbers = checks::point_numbers(n, n);
+    checks::early_refusal(true, sized, numbers <= list.len(), false)
 }
 
 pub fn point(list: &[f64], n: usize, k: usize) -> &[f64]

@@ -13,8 +13,8 @@ ghost use Rattle.filter.specs.Steps.{step, paramsRead, staleRead};
 use crate::Filter;
 use crate::ParamsRead;
 use crate::StaleRead;
+use crate::checks;
 use crate::fronts;
-use crate::tests;
 use floats::Verdict;
 use sigma::Params;
 
@@ -24,8 +24,8 @@ fn read(n: usize, k: usize, stale: bool, s: &[f64], out: &mut [f64]) -> Verdict
     ensures { λ r. ⌜ r ≡ firstRefusal binary64 (line true n [] (lend (now (out .entry)) k) stale [] []) ⌝ }
     ensures { λ r. ⌜ now (out .exit) ≡ over (or [] (guarded binary64 (line true n [] (lend (now (out .entry)) k) stale [] []) (accepted (take k (now (s .entry)))))) (now (out .entry)) ⌝ }
 {
-    let sized = tests::is_sized(n);
-    let refusal = tests::early_refusal(true, sized, k <= out.len(), stale);
+    let sized = checks::is_sized(n);
+    let refusal = checks::early_refusal(true, sized, k <= out.len(), stale);
     if refusal.number != 0 {
         return refusal;
     }
@@ -48,7 +48,7 @@ impl Filter {
         ensures { λ r. ⌜ now (out .exit) ≡ over (step binary64 self (reading (read-p (now (out .entry)))) .reply .given) (now (out .entry)) ⌝ }
     {
         let n = self.sheet.n;
-        let k = tests::square(n);
+        let k = checks::square(n);
         let p = self.track.p;
         read(n, k, false, &p, out)
     }
@@ -58,7 +58,7 @@ impl Filter {
         ensures { λ r. ⌜ now (out .exit) ≡ over (step binary64 self (reading (read-q (now (out .entry)))) .reply .given) (now (out .entry)) ⌝ }
     {
         let n = self.sheet.n;
-        let k = tests::square(n);
+        let k = checks::square(n);
         let q = self.sheet.q;
         read(n, k, false, &q, out)
     }
@@ -68,7 +68,7 @@ impl Filter {
         ensures { λ r. ⌜ now (out .exit) ≡ over (step binary64 self (reading (read-points (now (out .entry)))) .reply .given) (now (out .entry)) ⌝ }
     {
         let n = self.sheet.n;
-        let k = tests::point_numbers(n, n);
+        let k = checks::point_numbers(n, n);
         let points = self.track.points;
         read(n, k, self.track.stale, &points, out)
     }
@@ -77,8 +77,8 @@ impl Filter {
         ensures { λ r. ⌜ r ≡ paramsRead (step binary64 self (reading read-params) .reply) ⌝ }
     {
         let n = self.sheet.n;
-        let sized = tests::is_sized(n);
-        let refusal = tests::early_refusal(true, sized, true, false);
+        let sized = checks::is_sized(n);
+        let refusal = checks::early_refusal(true, sized, true, false);
         if refusal.number != 0 {
             let params = Params {
                 alpha: 0.0,
@@ -95,8 +95,8 @@ impl Filter {
         ensures { λ r. ⌜ r ≡ staleRead (step binary64 self (reading read-stale) .reply) ⌝ }
     {
         let n = self.sheet.n;
-        let sized = tests::is_sized(n);
-        let refusal = tests::early_refusal(true, sized, true, false);
+        let sized = checks::is_sized(n);
+        let refusal = checks::early_refusal(true, sized, true, false);
         if refusal.number != 0 {
             return StaleRead {
                 refusal,

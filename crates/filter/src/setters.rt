@@ -5,6 +5,7 @@ ghost use Rattle.filter.specs.Calls.{writing, setting, set-x, set-p, set
 ghost use Rattle.filter.specs.Steps.{step, answered};
 use crate::Answer;
 use crate::Filter;
+use crate::checks;
 use crate::fronts;
 use crate::tests;
 use angles::Kind;
@@ -19,7 +20,7 @@ impl Filter {
         let mut track = self.track;
         let n = sheet.n;
         let stage = track.stage;
-        let shut = tests::is_shut(stage);
+        let shut = checks::is_shut(stage);
         let refusal = tests::slice_refusal(shut, n, n, Slice::State, src);
         if refusal.number != 0 {
             return Answer {
@@ -43,8 +44,8 @@ impl Filter {
         let mut track = self.track;
         let n = sheet.n;
         let stage = track.stage;
-        let shut = tests::is_shut(stage);
-        let k = tests::square(n);
+        let shut = checks::is_shut(stage);
+        let k = checks::square(n);
         let refusal = tests::slice_refusal(shut, n, k, Slice::Covariance, src);
         if refusal.number != 0 {
             return Answer {
@@ -68,8 +69,8 @@ impl Filter {
         let track = self.track;
         let n = sheet.n;
         let stage = track.stage;
-        let shut = tests::is_shut(stage);
-        let k = tests::square(n);
+        let shut = checks::is_shut(stage);
+        let k = checks::square(n);
         let refusal = tests::slice_refusal(shut, n, k, Slice::Noise, src);
         if refusal.number != 0 {
             return Answer {
@@ -92,12 +93,12 @@ impl Filter {
         let mut track = self.track;
         let n = sheet.n;
         let stage = track.stage;
-        let shut = tests::is_shut(stage);
-        let sized = tests::is_sized(n);
+        let shut = checks::is_shut(stage);
+        let sized = checks::is_sized(n);
         let values = tests::values(params);
         let found = floats::first_bad(Slice::Lone, &values, 3);
         let passing = tests::params_pass(n, params);
-        let refusal = tests::first_refusal(shut, sized, true, false, found, true, passing);
+        let refusal = checks::first_refusal(shut, sized, true, false, found, true, passing);
         if refusal.number != 0 {
             return Answer {
                 filter: self,
@@ -119,13 +120,13 @@ impl Filter {
         let mut track = self.track;
         let n = sheet.n;
         let stage = track.stage;
-        let shut = tests::is_shut(stage);
-        let states = tests::is_sized(n);
-        let sized = tests::both(states, i < n);
+        let shut = checks::is_shut(stage);
+        let states = checks::is_sized(n);
+        let sized = checks::both(states, i < n);
         let value = [angles::half_of(kind)];
         let found = floats::first_bad(Slice::Lone, &value, 1);
         let passing = angles::kind_passes(kind);
-        let refusal = tests::first_refusal(shut, sized, true, false, found, true, passing);
+        let refusal = checks::first_refusal(shut, sized, true, false, found, true, passing);
         if refusal.number != 0 {
             return Answer {
                 filter: self,

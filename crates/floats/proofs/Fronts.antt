@@ -1,7 +1,7 @@
--- Laws of the fronts of lists (specs/Fronts.antt): none, one more number, the length. Assumes nothing.
+-- Laws of the fronts of lists (specs/Fronts.antt): none, one more number, the length; and a list of four. Assumes nothing.
 use Prim.Native.Nat.{ℕ, suc, _+_, _<_, _≤_}
 use mathlib.Core.Path.{_≡_, refl, sym, ap}
-use mathlib.Core.List.{List, _++_, append-assoc}
+use mathlib.Core.List.{List, [], _∷_, _++_, append-assoc}
 use native.Mathlib.Numerals.{add-one}
 use native.Mathlib.Omega.{arith}
 use lib.ListN.{length, take, drop, getD, set, length-take, length-append, length-drop}
@@ -27,3 +27,12 @@ length-front s d i h k = simp (length-append, length-take, length-drop) (omega a
 pub front-over : (k : ℕ) (s d : List Float) → k ≤ length s → front k s d ≡ over (take k s) d
 unfolding front
 front-over k s d h = ap (λ (j : ℕ). take k s ++ drop j d) (sym (length-take-le k s h))
+
+-- a list of four is what stands in its four places
+pub four : {A : Type 0} (l : List A) (d : A) → length l ≡ 4 → getD l 0 d ∷ getD l 1 d ∷ getD l 2 d ∷ getD l 3 d ∷ [] ≡ l
+four [] d h = absurd (omega arith)
+four (a ∷ []) d h = absurd (omega arith)
+four (a ∷ b ∷ []) d h = absurd (omega arith)
+four (a ∷ b ∷ c ∷ []) d h = absurd (omega arith)
+four (a ∷ b ∷ c ∷ e ∷ []) d h = refl
+four (a ∷ b ∷ c ∷ e ∷ g ∷ l) d h = absurd (omega arith)

@@ -86,7 +86,7 @@ pub fn earlier(a: Verdict, b: Verdict) -> Verdict
 }
 
 // The number of a slice that has a bad number.
-fn slice_number(s: Slice) -> u8
+pub fn slice_number(s: Slice) -> u8
     ensures { λ r. ⌜ r ≡ sliceNumber s ⌝ }
 {
     match s {
@@ -98,6 +98,8 @@ fn slice_number(s: Slice) -> u8
         Slice::Lone => 56,
     }
 }
+
+// ---- the search
 
 // The search of the first k numbers of s, or of all where s is shorter: the first that isn't finite, by its slice and its place.
 pub fn first_bad(slice: Slice, s: &[f64], k: usize) -> Verdict

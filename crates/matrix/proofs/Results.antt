@@ -7,15 +7,13 @@ use mathlib.Core.List.{List, [], _∷_, _++_}
 use mathlib.Core.Logic.{_↔_, _≢_, ⊎-elim}
 use borrow.Author.Tests.{not-true, not-false}
 use lib.ListN.{take}
-use lib.Ieee.{Float, binary64}
+use lib.Ieee.{Float, Format}
 use Rattle.floats.specs.declared.Verdict.{Verdict}
 use Rattle.floats.specs.Refusal.{Refusal, badLone, RANGE, verdict, Outcome, refused, accepted, refusal, or, unless, onward}
 use Rattle.floats.specs.Numbers.{allFinite}
 use Rattle.floats.proofs.Refusals.{refused-never, gave-zero, gave-number, onward-same, onward-unless, passed, failed}
 use Rattle.root.specs.Definition.{rootOf}
-use Rattle.root.specs.Answer.{outcomeOf, rootOutcome}
-use Rattle.root.specs.declared.Root.{Root}
-use Rattle.root.specs.declared.Root.the-variants.{Value, Refused}
+use Rattle.root.specs.Answer.{rootOutcome}
 use Rattle.matrix.specs.Results.{Result, numbers, rooting, good, refusalOf, First, now, later, Work, made, check, worked, results, product, then, listed, Plan, finish, after, run, planned}
 use Rattle.matrix.proofs.Roots.{root-value, root-refused}
 
@@ -128,15 +126,15 @@ module _ {A : Type 0} where
         let g = gave-number (worked w) (λ z. t (ap (λ (v : Verdict). v .number) n ∙ z)) in
         (g .0, rw (g .1) at (at .is), n ∙ g .2)
 
-  -- x is a number whose root is taken, and the answer q is taken apart
-  module _ {o : Outcome A} {x : Float} {κ : Float → Plan A} (at : Comes o (after (check (rooting x) (made (rootOf binary64 x))) κ)) {q : Root} (told : outcomeOf q ≡ rootOutcome binary64 x) where
-    pub root-goes : {d : Float} → q ≡ Value d → Comes o (κ d)
+  -- x is a number whose root is taken, and q the outcome of that
+  module _ (f : Format) {o : Outcome A} {x : Float} {κ : Float → Plan A} (at : Comes o (after (check (rooting x) (made (rootOf f x))) κ)) {q : Outcome Float} (told : q ≡ rootOutcome f x) where
+    pub root-goes : (d : Float) → q ≡ accepted d → Comes o (κ d)
     unfolding run worked
-    root-goes t = let h = root-value x told t in record { is = rw (h .0, h .1) at (at .is) }
+    root-goes d t = let h = root-value f x told t in record { is = rw (h .0, h .1) at (at .is) }
 
-    pub root-stops : q ≡ Refused → o ≡ refused badLone
+    pub root-stops : q ≡ refused badLone → o ≡ refused badLone
     unfolding run worked
-    root-stops t = rw (root-refused x told t) at (at .is)
+    root-stops t = rw (root-refused f x told t) at (at .is)
 
 -- what the code returns, where a callee has made the refusal's answer
 pub refused-as : {A B : Type 0} (h : Outcome A → B) {o : Outcome A} {q : B} {r : Refusal} → q ≡ h (refused r) → o ≡ refused r → q ≡ h o

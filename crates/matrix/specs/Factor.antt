@@ -8,8 +8,8 @@ use Rattle.floats.specs.Numbers.{zeros}
 use Rattle.root.specs.Definition.{rootOf}
 use Rattle.matrix.specs.Sums.{lessOf}
 use Rattle.matrix.specs.Results.{numbers, pivot, Work, made, check, then}
-use Rattle.matrix.specs.declared.factor.Pivots.{Pivots}
-use Rattle.matrix.specs.declared.factor.Pivots.the-variants.{OfP, OfS}
+use Rattle.matrix.specs.declared.pivots.Pivots.{Pivots}
+use Rattle.matrix.specs.declared.pivots.Pivots.the-variants.{OfP, OfS}
 use Rattle.matrix.specs.declared.factor.Factor.{Factor}
 
 -- A of n rows: A[i][j] minus L[i][k]·L[j][k] for k below j in turn

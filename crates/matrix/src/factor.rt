@@ -2,45 +2,19 @@
 ghost use mathlib.Core.Path.{_≡_};
 ghost use Prim.Native.Nat.{_≤_};
 ghost use lib.Ieee.{binary64};
-ghost use Rattle.floats.specs.Refusal.{verdict};
 ghost use Rattle.matrix.specs.Results.{worked};
 ghost use Rattle.matrix.specs.Factor.{refusedBy, factorOf, factored};
+use crate::layout;
+use crate::pivots;
+use crate::pivots::Pivots;
 use crate::sums;
 use floats::Verdict;
 use root::Root;
-
-// Whose pivots a factor has: those of P or those of S.
-pub enum Pivots {
-    OfP,
-    OfS,
-}
 
 // A factor: 0 and its entries, or the number that it was refused by, with its place (of a pivot the row), and +0 throughout.
 pub struct Factor {
     pub refusal: Verdict,
     pub l: [f64; 64],
-}
-
-pub const PIVOT: u8 = 7;
-
-pub const INNOV: u8 = 8;
-
-pub const RANGE: u8 = 9;
-
-// The number that refuses a pivot, with its row.
-fn refused_by(of: Pivots, row: usize) -> Verdict
-    ensures { λ r. ⌜ r ≡ verdict (refusedBy of row) ⌝ }
-{
-    match of {
-        Pivots::OfP => Verdict {
-            number: PIVOT,
-            place: row,
-        },
-        Pivots::OfS => Verdict {
-            number: INNOV,
-            place: row,
-        },
-    }
 }
 
 // The factor of A, whose lower triangle stands in the front of a, row by row. The work stops at the first refused entry, out of both loops.
@@ -52,23 +26,23 @@ pub fn cholesky_decompose_lower(a: &[f64; 64], n: usize, of: Pivots) -> Factor
     let mut refusal = floats::placeless(0);
     let mut j = 0usize;
     'columns: while j < n {
-        let s = sums::row(j, n);
+        let s = layout::row(j, n);
         let pivot = sums::less(a[s + j], &l, s, s, j);
         if !floats::is_above_zero(pivot) {
-            refusal = refused_by(of, j);
+            refusal = pivots::refused_by(of, j);
             break 'columns;
         }
         let Root::Value(d) = root::square_root(pivot) else {
-            refusal = refused_by(of, j);
+            refusal = pivots::refused_by(of, j);
             break 'columns;
         };
         l[s + j] = d;
         let mut i = j + 1;
         'rows: while i < n {
-            let r = sums::row(i, n);
+            let r = layout::row(i, n);
             let e = sums::less(a[r + j], &l, r, s, j) / d;
             if !floats::is_finite(e) {
-                refusal = floats::placeless(RANGE);
+                refusal = floats::placeless(pivots::RANGE);
                 break 'columns;
             }
             l[r + j] = e;

@@ -5,7 +5,7 @@ ghost use lib.Ieee.{binary64};
 ghost use Rattle.floats.specs.Numbers.{zeros};
 ghost use Rattle.matrix.specs.Folds.{rowsOf};
 ghost use Rattle.matrix.specs.Inverse.{unitAt, forwardAt, forwardOf, backwardAt, backwardOf, columnAt, inverseOf};
-use crate::sums;
+use crate::layout;
 
 // 1 if i = c, else 0.
 fn unit(c: usize, i: usize) -> f64
@@ -22,11 +22,11 @@ fn forward_at(l: &[f64; 64], m: usize, c: usize, u: &[f64; 8], i: usize) -> f64
     let mut s = unit(c, i);
     let mut k = 0usize;
     while k < i {
-        let at = sums::cell(i, m, k);
+        let at = layout::cell(i, m, k);
         s = s - l[at] * u[k];
         k += 1;
     }
-    let d = sums::cell(i, m, i);
+    let d = layout::cell(i, m, i);
     s / l[d]
 }
 
@@ -54,11 +54,11 @@ fn backward_at(l: &[f64; 64], m: usize, v: &[f64; 8], i: usize) -> f64
     let mut k = 0usize;
     while k < rest {
         let j = i + 1 + k;
-        let at = sums::cell(j, m, i);
+        let at = layout::cell(j, m, i);
         s = s - l[at] * v[j];
         k += 1;
     }
-    let d = sums::cell(i, m, i);
+    let d = layout::cell(i, m, i);
     s / l[d]
 }
 
@@ -90,7 +90,7 @@ fn columns(l: &[f64; 64], m: usize) -> [f64; 64]
         let v = backward(l, m, u);
         let mut i = 0usize;
         while i < m {
-            let at = sums::cell(c, m, i);
+            let at = layout::cell(c, m, i);
             out[at] = v[i];
             i += 1;
         }
@@ -110,8 +110,8 @@ pub fn invert_l_cholesky(l: &[f64; 64], m: usize) -> [f64; 64]
     while i < m {
         let mut c = 0usize;
         while c < m {
-            let at = sums::cell(i, m, c);
-            let from = sums::cell(c, m, i);
+            let at = layout::cell(i, m, c);
+            let from = layout::cell(c, m, i);
             out[at] = w[from];
             c += 1;
         }

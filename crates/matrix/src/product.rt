@@ -3,6 +3,7 @@ ghost use mathlib.Core.Path.{_≡_};
 ghost use Prim.Native.Nat.{_≤_};
 ghost use lib.Ieee.{binary64};
 ghost use Rattle.matrix.specs.Product.{transbOf};
+use crate::layout;
 use crate::sums;
 
 // A·Bᵀ of n rows and m rows of d: n rows of m cells, each a sum from +0 upward.
@@ -15,9 +16,9 @@ pub fn mult_transb(a: &[f64; 64], n: usize, b: &[f64; 64], m: usize, d: usize) -
     while i < n {
         let mut j = 0usize;
         while j < m {
-            let at = sums::cell(i, m, j);
-            let r = sums::row(i, d);
-            let s = sums::row(j, d);
+            let at = layout::cell(i, m, j);
+            let r = layout::row(i, d);
+            let s = layout::row(j, d);
             out[at] = sums::dot(a, r, b, s, d);
             j += 1;
         }

@@ -1,24 +1,8 @@
-// Where rows and cells stand, sums of products of rows, and sums and differences of matrices. Each operation is rounded once.
+// Sums of products of rows, and sums and differences of matrices. Each operation is rounded once.
 ghost use mathlib.Core.Path.{_≡_};
-ghost use Prim.Native.Nat.{_+_, _*_, _<_, _≤_};
+ghost use Prim.Native.Nat.{_+_, _≤_};
 ghost use lib.Ieee.{binary64};
 ghost use Rattle.matrix.specs.Sums.{dotOf, lessOf, plusOf, minusOf};
-
-// Where row i of rows of n starts.
-pub fn row(i: usize, n: usize) -> usize
-    requires { ⌜ (i < 8) × (n ≤ 8) ⌝ }
-    ensures { λ r. ⌜ (r ≡ i * n) × (r + n ≤ 64) ⌝ }
-{
-    i * n
-}
-
-// Where column j of row i of rows of d stands.
-pub fn cell(i: usize, d: usize, j: usize) -> usize
-    requires { ⌜ (i < 8) × (d ≤ 8) × (j < d) ⌝ }
-    ensures { λ r. ⌜ (r ≡ i * d + j) × (r < 64) ⌝ }
-{
-    row(i, d) + j
-}
 
 // The sum over k below n, from +0 upward, of x[r + k]·y[s + k].
 pub fn dot(x: &[f64; 64], r: usize, y: &[f64; 64], s: usize, n: usize) -> f64

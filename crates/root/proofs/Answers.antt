@@ -5,12 +5,12 @@ use native.Mathlib.Omega.{arith}
 use Prim.Native.Nat.{ℕ, zero, suc, _*_, _<_}
 use lib.IntN.{ℤ}
 use lib.Dec.{T, ltb→lt}
-use lib.Ieee.{Float, nan, inf, fin, Format, binary64, up, down, fits, lt}
-use Rattle.floats.specs.Refusal.{badLone, accepted, unless}
+use lib.Ieee.{Float, nan, inf, fin, Format, up, down, fits, lt}
+use Rattle.floats.specs.Refusal.{Outcome, accepted}
 use Rattle.floats.specs.Numbers.{aboveZero}
 use Rattle.root.specs.Definition.{rootOf, rooted}
 use Rattle.root.specs.Nearest.{Nearest}
-use Rattle.root.specs.Answer.{outcomeOf, rootOutcome, given, answer, Asked}
+use Rattle.root.specs.Answer.{outcomeOf, rootOutcome, Asked}
 use Rattle.root.specs.declared.Root.{Root}
 use Rattle.root.specs.declared.Root.the-variants.{Value, Refused}
 use Rattle.root.proofs.Laws.{root-fits, root-above, root-nearest, root-only, zero-nearest}
@@ -42,39 +42,29 @@ zero-own f s e = refl
 
 -- ---- what `square_root` answers
 -- Each outcome is one case of the enum's: what the contract says is the answer.
-pub outcome-answer : (x : Float) → outcomeOf (answer x) ≡ rootOutcome binary64 x
-outcome-answer x = go (rooted x)
-  where
-    go : (b : Bool) → outcomeOf (given b (rootOf binary64 x)) ≡ unless b badLone (accepted (rootOf binary64 x))
-    go true = refl
-    go false = refl
-
 pub one-case : (a b : Root) → outcomeOf a ≡ outcomeOf b → a ≡ b
 one-case (Value r) (Value q) k = cc
 one-case (Value r) Refused k = let z : _≡_ {A = ℕ} 0 1 = cc in absurd (omega arith)
 one-case Refused (Value q) k = let z : _≡_ {A = ℕ} 0 1 = cc in absurd (omega arith)
 one-case Refused Refused k = refl
 
--- THE ANSWER IS WHAT DOCUMENT 01 ASKS, for every f64 (each fits its format).
-pub asked : (x : Float) → T (fits binary64 x) → Asked x (answer x)
+-- THE OUTCOME IS WHAT DOCUMENT 01 ASKS, for every value of the format.
+pub asked : (f : Format) (x : Float) → T (fits f x) → Asked f x (rootOutcome f x)
 unfolding rooted rootOf
-asked nan h = refl
-asked (inf s) h = refl
-asked (fin s zero e) h = refl
-asked (fin true (suc m) e) h = refl
-asked (fin false (suc m) e) h = (rootOf binary64 (fin false (suc m) e), refl, root-nearest binary64 m e h)
+asked f nan h = refl
+asked f (inf s) h = refl
+asked f (fin s zero e) h = refl
+asked f (fin true (suc m) e) h = refl
+asked f (fin false (suc m) e) h = (rootOf f (fin false (suc m) e), refl, root-nearest f m e h)
 
 -- AND NOTHING ELSE IS.
-pub asked-only : (x : Float) (a : Root) → T (fits binary64 x) → Asked x a → a ≡ answer x
+pub asked-only : (f : Format) (x : Float) (o : Outcome Float) → T (fits f x) → Asked f x o → o ≡ rootOutcome f x
 unfolding rooted rootOf
-asked-only nan a h k = one-case a Refused k
-asked-only (inf s) a h k = one-case a Refused k
-asked-only (fin s zero e) a h k = one-case a (Value (fin s zero e)) k
-asked-only (fin true (suc m) e) a h k = one-case a Refused k
-asked-only (fin false (suc m) e) a h k = one-case a (Value (k .0)) (k .1) ∙ ap Value (root-only binary64 m e h (k .0) (k .2))
-
-pub two-answers : (x : Float) (a b : Root) → T (fits binary64 x) → Asked x a → Asked x b → a ≡ b
-two-answers x a b h k l = asked-only x a h k ∙ sym (asked-only x b h l)
+asked-only f nan o h k = k
+asked-only f (inf s) o h k = k
+asked-only f (fin s zero e) o h k = k
+asked-only f (fin true (suc m) e) o h k = k
+asked-only f (fin false (suc m) e) o h k = k .1 ∙ ap accepted (root-only f m e h (k .0) (k .2))
 
 -- ---- for callers
 -- WHAT IS ABOVE ZERO ALWAYS HAS A ROOT: a pivot that passes is never refused here.

@@ -1,15 +1,16 @@
 -- What stands in each place of the weights, the points, the mean, the deviations and the spread. Assumes nothing.
-use Prim.Native.Nat.{ℕ, zero, suc, _+_, _-_, _<_, _≤_}
-use mathlib.Core.Path.{_≡_, refl, sym, ap, _∙_}
-use mathlib.Core.Bool.{Bool, cond}
-use mathlib.Core.List.{List}
+use Prim.Native.Nat.{ℕ, zero, suc, _+_, _-_, _^_, _<_, _≤_}
+use mathlib.Core.Path.{_≡_, refl, sym, ap, _∙_, subst}
+use mathlib.Core.Bool.{Bool, true, false, _&&_, cond}
+use mathlib.Core.List.{List, [], _∷_}
 use borrow.Author.Tests.{ne-eqb, le-leb, lt-leb}
 use native.Mathlib.Nat.{add-mul}
 use native.Mathlib.Omega.{arith}
-use lib.Dec.{eqb}
+use lib.Dec.{T, eqb}
+use lib.IntN.{pos}
 use lib.ListN.{length, getD}
-use lib.Ieee.{Float, nan, Format, add, sub}
-use Rattle.floats.specs.Numbers.{plusZero, zeros}
+use lib.Ieee.{Float, nan, Format, binary32, binary64, add, sub, inFloat}
+use Rattle.floats.specs.Numbers.{plusZero, zeros, allFinite, aboveZero}
 use Rattle.matrix.specs.Folds.{rowsOf}
 use Rattle.angles.specs.declared.Kind.{Kind}
 use Rattle.matrix.proofs.Cells.{Placed, placed, Filled, filled, matrix-filled}
@@ -18,6 +19,7 @@ use Rattle.sigma.specs.Draw.{stepAt, pointAt, pointsOf}
 use Rattle.sigma.specs.Mean.{meanAt, meanOf}
 use Rattle.sigma.specs.Spread.{deviationAt, deviationsOf, spreadAt, spreadOf}
 use Rattle.sigma.specs.declared.Params.{Params}
+use Rattle.sigma.specs.declared.weights.Weighting.{Weighting}
 use Rattle.sigma.proofs.Flat.{point-in}
 
 -- ---- weights
@@ -25,6 +27,22 @@ use Rattle.sigma.proofs.Flat.{point-in}
 -- every weight but the first is the other one
 pub other : (a b : Float) (k : ℕ) → 0 < k → b ≡ cond (eqb k 0) a b
 other a b k h = sym (ap (λ (t : Bool). cond t a b) (ne-eqb k 0 (λ (e : k ≡ 0). omega arith)))
+
+-- up to 8 states are exact in either format
+pub states-exact : (f : Format) (n : ℕ) → n ≤ 8 → T (inFloat f (pos n))
+unfolding inFloat
+states-exact binary32 n h = subst T (sym (le-leb n (2 ^ 24) (omega arith))) tt
+states-exact binary64 n h = subst T (sym (le-leb n (2 ^ 53) (omega arith))) tt
+
+-- what 6 asks, of what was computed: once N has passed, the others decide; before that, nothing does
+abbrev pub passes : Weighting → Bool
+passes v = aboveZero (v .scale) && allFinite (v .w0m ∷ v .w0c ∷ v .wi ∷ [])
+
+pub others-decide : (v : Weighting) {b : Bool} → b ≡ aboveZero (v .scale) → b ≡ true → allFinite (v .w0m ∷ v .w0c ∷ v .wi ∷ []) ≡ passes v
+others-decide v e t = ap (λ (a : Bool). a && allFinite (v .w0m ∷ v .w0c ∷ v .wi ∷ [])) (sym t ∙ e)
+
+pub n-decides : (v : Weighting) {b : Bool} → b ≡ aboveZero (v .scale) → b ≡ false → false ≡ passes v
+n-decides v e t = ap (λ (a : Bool). a && allFinite (v .w0m ∷ v .w0c ∷ v .wi ∷ [])) (sym t ∙ e)
 
 module _ (f : Format) (n : ℕ) (p : Params) (h : n ≤ 8) where
   pub weights-placed : Placed (weightAt f n p) (n + n + 1) 17 (weightsOf f n p)

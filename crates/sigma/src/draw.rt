@@ -6,8 +6,8 @@ ghost use Rattle.sigma.specs.Draw.{pointAt, pointsOf, drawOf, drawn, und
 use crate::Drawn;
 use floats::Verdict;
 use matrix::factor;
-use matrix::factor::Pivots;
-use matrix::sums;
+use matrix::layout;
+use matrix::pivots::Pivots;
 use root::Root;
 
 // Number i of point k: point 0 is x, then come n points x[i] + s·L[i][j], and n points x[i] − s·L[i][j].
@@ -19,10 +19,10 @@ fn point_at(n: usize, x: &[f64; 8], l: &[f64; 64], s: f64, k: usize, i: usize) -
         return x[i];
     }
     if k <= n {
-        let at = sums::cell(i, n, k - 1);
+        let at = layout::cell(i, n, k - 1);
         return x[i] + s * l[at];
     }
-    let at = sums::cell(i, n, k - 1 - n);
+    let at = layout::cell(i, n, k - 1 - n);
     x[i] - s * l[at]
 }
 

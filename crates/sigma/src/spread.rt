@@ -4,7 +4,7 @@ ghost use Prim.Native.Nat.{_<_, _≤_};
 ghost use lib.Ieee.{binary64};
 ghost use Rattle.sigma.specs.Spread.{deviationsOf, spreadAt, spreadOf};
 use angles::Kind;
-use matrix::sums;
+use matrix::layout;
 
 // Every point minus the mean, through the kinds.
 pub fn deviations(
@@ -73,7 +73,7 @@ pub fn spread(
     while i < da {
         let mut j = 0usize;
         while j < db {
-            let at = sums::cell(i, db, j);
+            let at = layout::cell(i, db, j);
             out[at] = sum_at(a, da, i, b, db, j, w, t);
             j += 1;
         }

@@ -45,7 +45,7 @@ ended c =
     (⊎-elim
     (λ w. inr (_, w .9 ∙ w .7 .ensures, column-stops (inv .2) (w .0 .taken) (w .1 .ensures .0) (w .4 .ensures) (sym (w .5 .ensures) ∙ not-true _ (w .6 .taken))))
     (⊎-elim
-    (λ w. absurd (above-never _ (w .7 .ensures) (sym (w .5 .ensures) ∙ not-false _ (w .6 .left)) (w .9 .given .1)))
+    (λ w. absurd (above-never binary64 _ (w .7 .ensures) (sym (w .5 .ensures) ∙ not-false _ (w .6 .left)) (rw (w .9 .given .1))))
     (λ w. inr (RANGE, w .21 ∙ w .19 .ensures, row-stops (w .11 .inv .2) (w .12 .taken) (w .13 .ensures .0) (w .1 .ensures .0) (w .16 .ensures) (sym (w .17 .ensures) ∙ not-true _ (w .18 .taken))))))
     (c .columns-test .came)
 
@@ -66,7 +66,7 @@ rows-holds c =
       omega arith,
       at-columns .columns .inv .1,
       column-goes (at-columns .columns .inv .2) (at-row .before .columns-test .taken) (at-row .row .ensures .0) (at-less .less .ensures) above
-          (above-value _ (at-root .square-root .ensures) above (c .before .d .given .1)),
+          (above-value binary64 _ (at-root .square-root .ensures) above (rw (c .before .d .given .1))),
     )
 
 rows-again : tie.Need-rows-again Inv-rows μ-rows Inv-columns μ-columns

@@ -29,7 +29,7 @@ past-factor c =
 abbrev past-root : (c : tie.After-s) → Reached (whole (c .before .before .before .before .before))
 past-root c =
     let at = c .before .before in
-    record { plan = _; comes = root-goes (past-factor (at .before) .comes) (at .square-root .ensures) (c .s .given .1) }
+    record { plan = _; comes = root-goes binary64 (past-factor (at .before) .comes) (at .square-root .ensures) (c .s .given .0 .0) (rw (c .s .given .1)) }
 
 -- the points
 abbrev points-tested : (c : tie.After-all-finite) → Tested (whole (c .before .before .before .before .before .before .before .before .before .before .before)) (c .all-finite .result)
@@ -43,7 +43,7 @@ returns c =
 returns-2 : tie.Need-returns-2
 returns-2 c =
     let at = c .before .before .before in
-    refused-as drawn (c .refuse2 .ensures) (root-stops (past-factor (at .before) .comes) (at .square-root .ensures) (c .before .enum-told .given .1))
+    refused-as drawn (c .refuse2 .ensures) (root-stops binary64 (past-factor (at .before) .comes) (at .square-root .ensures) (rw (c .before .enum-told .given .1)))
 
 returns-3 : tie.Need-returns-3
 returns-3 c = refused-as drawn (c .refuse3 .ensures) (fails (points-tested (c .before .before)) (c .before .if2 .taken))

@@ -14,11 +14,11 @@ use Rattle.sigma.proofs.weights.weights.Statement.{statement}
 use Rattle.sigma.proofs.weights.weights.Tie as tie
 
 -- weight k, by what was computed
-abbrev at : Weighting → ℕ → Float
-at v k = cond (eqb k 0) (v .w0c) (v .wi)
+abbrev at : Float → Float → ℕ → Float
+at w0c wi k = cond (eqb k 0) w0c wi
 
 abbrev Inv-loop : tie.InvT-loop
-Inv-loop n c w₀ k₀ w k = (1 ≤ k) × (k ≤ n + n + 1) × Places (at c) (zeros 17) k w
+Inv-loop n c w₀ k₀ w k = (1 ≤ k) × (k ≤ n + n + 1) × Places (at (c .w0c) (c .wi)) (zeros 17) k w
 
 abbrev μ-loop : tie.MeasureT-loop
 μ-loop n c w₀ k₀ w k = n + n + 1 - k
@@ -34,7 +34,7 @@ returns : tie.Need-returns Inv-loop μ-loop
 returns c =
     let n = c .before .before .before .args .n in
     let e : c .before .loop .k ≡ n + n + 1 = omega arith in
-    places-end (c .before .loop .inv .2) e ∙ ap (λ (v : Weighting). placesOf (at v) (n + n + 1) (zeros 17)) (c .before .before .compute-weights .ensures)
+    places-end (c .before .loop .inv .2) e ∙ ap (λ (v : Weighting). placesOf (at (v .w0c) (v .wi)) (n + n + 1) (zeros 17)) (c .before .before .compute-weights .ensures)
 
 pub weights-spec : {M : Type 1} → statement M
 weights-spec =

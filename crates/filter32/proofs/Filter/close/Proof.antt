@@ -1,0 +1,13 @@
+-- `Filter::close` meets its contract: by whether the number is 0. Assumes nothing. At f32: made from crates/filter by narrow.py.
+use borrow.Author.Tests.{eq-eqb, ne-eqb}
+use lib.Ieee.{ofBits}
+use Rattle.floats.specs.Numbers.{zeros}
+use Rattle.filter32.proofs.Filter.close.Statement.{statement}
+use Rattle.filter32.proofs.Filter.close.Tie as tie
+
+returns-2 : tie.Need-returns-2
+unfolding zeros ofBits
+returns-2 c = rw (eq-eqb _ _ (c .before .before .before .before .if1 .left))
+
+pub close-spec : {M : Type 1} → statement M
+close-spec = tie.close (tie.spec (λ c. rw (ne-eqb _ _ (c .if1 .taken))) returns-2)

@@ -1,0 +1,148 @@
+// New: a filter from n, x, P, Q and the parameters, a track on a sheet; refused, the empty filter. Each part is made by itself, and several tracks may be put on one sheet. At f32: made from crates/filter by narrow.py.
+ghost use mathlib.Core.Path.{_≡_};
+ghost use lib.Ieee.{binary32};
+ghost use Rattle.filter.specs.New.{freshSheet, freshTrack, from, newSheet, newTrack, newAnswer, emptySheet, emptyTrack};
+ghost use Rattle.filter32.specs.Wide.{wideAnswer, wideNewSheet, wideNewTrack, wideSheet, wideTrack};
+ghost use Rattle.sigma32.specs.Wide.{wideParams};
+use crate::Answer;
+use crate::Filter;
+use crate::Sheet;
+use crate::Track;
+use crate::fronts;
+use crate::tests;
+use angles32::Kind;
+use angles32::Residual;
+use filter::Stage;
+use filter::checks;
+use floats::Slice;
+use floats::Verdict;
+use sigma32::Params;
+
+// A new sheet with number and place; refused, the empty filter's.
+pub struct NewSheet {
+    pub refusal: Verdict,
+    pub sheet: Sheet,
+}
+
+// A new track with number and place; refused, the empty filter's.
+pub struct NewTrack {
+    pub refusal: Verdict,
+    pub track: Track,
+}
+
+// All kinds plain.
+fn fresh_sheet(n: usize, q: [f32; 64], params: Params) -> Sheet
+    ensures { λ r. ⌜ wideSheet r ≡ freshSheet n q (wideParams params) ⌝ }
+{
+    let plain = Kind {
+        residual: Residual::Plain,
+    };
+    Sheet {
+        n,
+        q,
+        params,
+        kinds: [plain; 8],
+    }
+}
+
+// Stale, nothing open; points, weights and what an open call has drawn at +0.
+fn fresh_track(x: [f32; 8], p: [f32; 64]) -> Track
+    ensures { λ r. ⌜ wideTrack r ≡ freshTrack x p ⌝ }
+{
+    Track {
+        x,
+        p,
+        weights: [0.0; 17],
+        points: [0.0; 136],
+        stale: true,
+        stage: Stage::Shut,
+        drawn_weights: [0.0; 17],
+        drawn_points: [0.0; 136],
+    }
+}
+
+// n = 0 and every number +0.
+pub fn empty_sheet() -> Sheet
+    ensures { λ r. ⌜ wideSheet r ≡ emptySheet ⌝ }
+{
+    let params = Params {
+        alpha: 0.0,
+        beta: 0.0,
+        kappa: 0.0,
+    };
+    fresh_sheet(0, [0.0; 64], params)
+}
+
+pub fn empty_track() -> Track
+    ensures { λ r. ⌜ wideTrack r ≡ emptyTrack ⌝ }
+{
+    fresh_track([0.0; 8], [0.0; 64])
+}
+
+impl Sheet {
+    pub fn new(n: usize, q: &[f32], params: Params) -> NewSheet
+        ensures { λ r. ⌜ wideNewSheet r ≡ newSheet binary32 n (now (q .entry)) (wideParams params) ⌝ }
+    {
+        let k = checks::square(n);
+        let sized = checks::is_sized(n);
+        let values = tests::values(params);
+        let in_noise = floats32::first_bad(Slice::Noise, q, k);
+        let found = floats32::next_bad(in_noise, Slice::Lone, &values, 3);
+        let passing = tests::params_pass(n, params);
+        let refusal = checks::first_refusal(true, sized, k <= q.len(), false, found, true, passing);
+        if refusal.number != 0 {
+            let sheet = empty_sheet();
+            return NewSheet { refusal, sheet };
+        }
+        let q = fronts::matrix(q, k);
+        let sheet = fresh_sheet(n, q, params);
+        NewSheet { refusal, sheet }
+    }
+}
+
+impl Track {
+    pub fn new(n: usize, x: &[f32], p: &[f32]) -> NewTrack
+        ensures { λ r. ⌜ wideNewTrack r ≡ newTrack binary32 n (from (now (x .entry)) (now (p .entry))) ⌝ }
+    {
+        let k = checks::square(n);
+        let sized = checks::is_sized(n);
+        let long = checks::both(n <= x.len(), k <= p.len());
+        let in_state = floats32::first_bad(Slice::State, x, n);
+        let found = floats32::next_bad(in_state, Slice::Covariance, p, k);
+        let refusal = checks::first_refusal(true, sized, long, false, found, true, true);
+        if refusal.number != 0 {
+            let track = empty_track();
+            return NewTrack { refusal, track };
+        }
+        let x = fronts::vector(x, n);
+        let p = fronts::matrix(p, k);
+        let track = fresh_track(x, p);
+        NewTrack { refusal, track }
+    }
+}
+
+impl Filter {
+    pub fn new(n: usize, x: &[f32], p: &[f32], q: &[f32], params: Params) -> Answer
+        ensures { λ r. ⌜ wideAnswer r ≡ newAnswer binary32 n (now (x .entry)) (now (p .entry)) (now (q .entry)) (wideParams params) ⌝ }
+    {
+        let a = Track::new(n, x, p);
+        let b = Sheet::new(n, q, params);
+        let of_track = a.refusal;
+        let of_sheet = b.refusal;
+        let refusal = filter::new::sooner(of_track, of_sheet);
+        if refusal.number != 0 {
+            let sheet = empty_sheet();
+            let track = empty_track();
+            return Answer {
+                filter: Filter { sheet, track },
+                refusal,
+            };
+        }
+        let sheet = b.sheet;
+        let track = a.track;
+        Answer {
+            filter: Filter { sheet, track },
+            refusal,
+        }
+    }
+}

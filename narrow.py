@@ -1,0 +1,239 @@
+#!/usr/bin/env python3
+"""Makes the floors at f32 from those at f64.  narrow.py [CRATE..] writes crates/CRATE32;  narrow.py --check says which made files have parted from what it would make, and ends with 1 where some have.
+
+Code and the proofs of functions are the same text but for the width: an edit belongs into the f64 crate, and is made here again. Definitions and laws are over the format: they are cited, never copied.
+What has no float in it is SHARED: called, and not made again. What the f32 filter lacks is LEFT. Written by hand are specs/, must-fail/, the laws of lists of kinds in angles32, and the proofs under OWN.
+A contract reads a struct or enum T of f32 as the one of f64, by wideT of specs/Wide.antt; WORDS has the few other words in which the widths differ.
+"""
+import os
+import re
+import sys
+
+HERE = os.path.dirname(os.path.abspath(__file__))
+FLOORS = ['floats', 'root', 'angles', 'matrix', 'sigma', 'correction', 'filter']
+
+# what has no float in it, as module::item; a module by itself is lib::module
+SHARED = {
+    'floats': ['lib::Slice', 'lib::Verdict', 'lib::placeless', 'lib::earlier', 'lib::slice_number'],
+    'matrix': ['lib::layout', 'lib::pivots'],
+    'sigma': ['lib::place'],
+    'filter': ['lib::Stage', 'lib::StaleRead', 'lib::checks', 'new::sooner'],
+}
+# what is not asked for at f32: the guess at a root and its judge (the digits alone are quick enough there), the flat close and what it tests
+LEFT = {
+    'root': ['lib::is_nearest_root', 'lib::product', 'lib::high_part', 'lib::guessed_root', 'lib::nearest_root'],
+    'correction': ['lib::flat'],
+    'filter': ['closes::close_correction_flat', 'tests::is_plain', 'tests::all_plain'],
+}
+# proofs that are written by hand, since what they go by differs: a root's bits fill its word, a list of kinds is read wide
+OWN = {'root': ['positive_root'], 'correction': ['widened'], 'filter': ['tests::halves']}
+# the structs and enums with floats, and where their wide.. stands
+TYPES = {
+    'Root': 'root', 'Wrapped': 'angles', 'Residual': 'angles', 'Kind': 'angles', 'Factor': 'matrix', 'Params': 'sigma', 'Drawn': 'sigma', 'Moments': 'sigma', 'Weighting': 'sigma', 'Intake': 'filter',
+    'Weighted': 'filter', 'Sheet': 'filter', 'Track': 'filter', 'Filter': 'filter', 'Answer': 'filter', 'ParamsRead': 'filter', 'NewSheet': 'filter', 'NewTrack': 'filter',
+}
+# words of made proofs that differ: crate -> function -> [(f64's, f32's)]
+PROOFS = {
+    'sigma': {
+        'mean::offset': [('d t w kinds i)', 'd t w (wideKinds kinds) i)'), ('.place .ensures .0)', '.place .ensures .0, kind-at)')],
+        'mean::anchored_mean': [('w0m w kinds)', 'w0m w (wideKinds kinds))')],
+        'spread::deviations': [('mean kinds)', 'mean (wideKinds kinds))'), ('(← at .place .ensures .0)', '(← at .place .ensures .0, kind-at)')],
+        'predict::reconstruct_prediction': [('(c .args .kinds)', '(wideKinds (c .args .kinds))')],
+        'weights::weights_pass': [('(at .before .compute-weights .result)', '(wideWeighting (at .before .compute-weights .result))')],
+    },
+    'correction': {
+        'innovation': [('mean kinds)', 'mean (wideKinds kinds))'), ('(c .through-kind .ensures)', '(rw kind-at (c .through-kind .ensures))')],
+        'apply_correction': [('measured = a .measured', 'measured = wideKinds (a .measured)')],
+        'correct_with_weights_residuals': [('(a .kinds)', '(wideKinds (a .kinds))'), ('(a .measured)', '(wideKinds (a .measured))')],
+    },
+    'filter': {
+        'new::fresh_sheet': [('statement M\n', 'statement M\nunfolding wideKinds\n')],
+        'Filter::set_kind': [('(λ c. has-finished (asked (c .before .before)) (c .if1 .left) refl refl)', '(λ c. rw kinds-set (has-finished (asked (c .before .before)) (c .if1 .left) refl refl))')],
+        'tests::kinds_pass': [
+            ('binary32) kinds i', 'binary32) (wideKinds kinds) i'), ('.args .m) (omega arith) (omega arith)\n', '.args .m) (omega (arith, kinds-long (c .before .before .before .args .t2))) (omega arith)\n'),
+            ('plain (omega arith)', 'plain (omega (arith, kinds-long (l .before .args .t2)))'), ('(sym (c .before .kind-passes .ensures) ∙ not-true _ (c .if2 .taken))', '(rw kind-at (sym (c .before .kind-passes .ensures) ∙ not-true _ (c .if2 .taken)))'),
+            ('(sym (c .before .kind-passes .ensures) ∙ not-false _ (c .if2 .left))', '(rw kind-at (sym (c .before .kind-passes .ensures) ∙ not-false _ (c .if2 .left)))'),
+        ],
+    },
+}
+# in the filter's proofs: an argument that is an f32 struct, handed to a definition or a law
+PLACE = r'(?:a|\w+(?: \w+| \((?:[^()]|\([^()]*\))*\))?(?: \.before)* \.args)'
+ARGS = {
+    'angles': [(rf'\(({PLACE} \.k)\)', r'(wideKind (\1))')],
+    'filter': [
+        (rf'\(({PLACE} \.self)\)', r'(wideFilter (\1))'), (rf'(?<== )({PLACE} \.self)(?= in\b)', r'wideFilter (\1)'), (rf'\(({PLACE} \.self \.sheet)\)', r'(wideSheet (\1))'),
+        (rf'(?<== )({PLACE} \.self \.sheet \.params)', r'wideParams (\1)'), (rf'\(({PLACE} \.params)\)', r'(wideParams (\1))'), (rf'\(({PLACE} \.kinds)\)', r'(wideKinds (\1))'),
+        (rf'\(({PLACE} \.kind)\)', r'(wideKind (\1))'), (r'\((c \.take-in \.result)\)', r'(wideIntake (\1))'), (r'\((c \.before \.reconstruct-prediction \.result)\)', r'(wideMoments (\1))'),
+        (r'(→|in) (c \.generate-sigma-points \.result)(?= ≡)', r'\1 wideDrawn (\2)'), (r'(→|in) (c \.(?:reconstruct-prediction|correct-with-weights-residuals) \.result)(?= ≡)', r'\1 wideMoments (\2)'),
+    ],
+}
+# where the words that a made proof takes in stand
+HOMES = {w: ('angles', 'proofs.Places') for w in ('kind-at', 'kinds-set', 'kinds-long')}
+# the numbers of the format, where code and proofs work from the bits
+NUMBERS = {
+    'root': {
+        'nearest_root': 'root_digits', 'nearest-root': 'root-digits', '52': '23', '53': '24', '54': '25', '63': '31', '64': '32', '11': '8', '1021': '125', '1022': '126', '1074': '149', '3068': '380', '0x7ff': '0xff', '0x800': '0x100', 'u64': 'u32', 'z as u64': 'z',
+        '0xf_ffff_ffff_ffff': '0x7f_ffff', '0x10_0000_0000_0000': '0x80_0000', '0x20_0000_0000_0000': '0x100_0000', '0x7fff_ffff_ffff_ffff': '0x7fff_ffff', '0x7ff0_0000_0000_0000': '0x7f80_0000',
+    },
+}
+FN = re.compile(r'^(?P<head> *(?:pub )?fn \w+\((?P<params>[^{]*?)\)(?: -> (?P<result>[^\n{]+))?\n)(?P<contract>(?: +(?:requires|ensures) \{.*\}\n)+)', re.M)
+
+
+def without(text, name):
+    """A source without an item of that name and the comment above it, or without that module."""
+    if f'pub mod {name};\n' in text:
+        return text.replace(f'pub mod {name};\n', '')
+    found = re.search(rf'(?:^ *//[^\n]*\n)*^(?P<in> *)(?:pub )?(?:fn|enum|struct) {name}\b.*?^(?P=in)}}\n\n?', text, re.M | re.S)
+    return text.replace(found.group(0), '')
+
+
+def imported(text, line):
+    """A source with one import more, after the last of its sort."""
+    sort = line.split('use ')[0]
+    at = [m.end() for m in re.finditer(rf'^{sort}use [^\n]*\n', text, re.M)] or [m.end() for m in re.finditer(r'^ghost use [^\n]*\n', text, re.M)]
+    return text[: at[-1]] + line + text[at[-1] :]
+
+
+def trimmed(text):
+    """A source without the imports that nothing names any more, and without headings that nothing stands under."""
+    body = re.sub(r'^(?:ghost )?use [^\n]*\n|//[^\n]*', '', text, flags=re.M)
+    promises = ''.join(re.findall(r'^ +(?:requires|ensures) [^\n]*\n', text, re.M))
+
+    def ghost(m):
+        names = [n for n in m.group(2).split(', ') if re.search(rf'(?<![\w.-]){re.escape(n.strip("_"))}(?![\w-])' if n[0] != '_' else re.escape(n.strip('_')), promises)]
+        return f'{m.group(1)}{{{", ".join(names)}}};\n' if names else ''
+
+    text = re.sub(r'^(ghost use [^\n{]*)\{([^}]*)\};\n', ghost, text, flags=re.M)
+    uses = sorted({u for u in re.findall(r'^use [^\n]*\n', text, re.M) if re.search(rf'\b{u[4:-2].split("::")[-1]}\b', body)}, key=lambda u: (not u.startswith('use crate'), u[4:-2].split('::')))
+    text = re.sub(r'(?:^use [^\n]*\n)+', lambda m: ''.join(uses), text, count=1, flags=re.M)
+    text = re.sub(r'// ---- [^\n]*\n\n(?=// ---- )', '', text)
+    return re.sub(r'\n\n(?=}\n)', '\n', re.sub(r'\n{3,}', '\n\n', text)).rstrip('\n') + '\n'
+
+
+def wide(kind):
+    """The definition that reads a type, or an array of it, as the f64 one."""
+    array = re.fullmatch(r'\[(\w+); \d+\]', kind)
+    if array and array.group(1) in TYPES:
+        return f'wide{array.group(1)}s'
+    return f'wide{kind}' if kind in TYPES else None
+
+
+def home(word):
+    return HOMES.get(word) or (TYPES[word[4:] if word[4:] in TYPES else word[4:-1]], 'specs.Wide')
+
+
+def path(floor, module, crate):
+    return f'Rattle·{floor}32·{module.split(".")[0]}.{module}' if floor == crate else f'Rattle·{floor}32.{module}'
+
+
+def contracts(text, crate):
+    """Each contract with the f32 structs read as the f64 ones."""
+    used = set()
+
+    def one(m):
+        params = [p.strip().split(':') for p in re.sub(r'\s+', ' ', m.group('params')).split(', ') if p.strip(' ,')]
+        contract = m.group('contract')
+        for p in params:
+            w = wide(p[1].strip(' ,')) if len(p) > 1 else 'wideFilter' if p[0] == 'self' else None
+            if w:
+                used.add(w)
+                contract = re.sub(rf'(?<![\w.-]){p[0]}(?![\w-]| = )', f'({w} {p[0]})', contract)
+        w = wide((m.group('result') or '').strip())
+        if w:
+            used.add(w)
+            v = re.search(r'ensures \{ λ (\w+)\.', contract).group(1)
+            contract = re.sub(rf'(?<=⌜ ){v} ≡', f'{w} {v} ≡', contract).replace(f'outcomeOf {v} ', f'outcomeOf ({w} {v}) ')
+        return m.group('head') + re.sub(r'(?<=\()\((wide\w+ \w+)\)(?= \.)', r'\1', contract)
+
+    text = FN.sub(one, text)
+    for there in sorted({home(w) for w in used}):
+        words = ', '.join(sorted(w for w in used if home(w) == there))
+        text = imported(text, f'ghost use {path(*there, crate)}.{{{words}}};\n')
+    return text
+
+
+def common(text, crate):
+    text = re.sub(rf'Rattle\.{crate}\.proofs\.([\w.]+\.(?:Statement|Tie)\b)', rf'Rattle·{crate}32·proofs.proofs.\1', text)
+    text = re.sub(rf'Rattle·{crate}·(proofs|specs)\.\1\.', rf'Rattle.{crate}.\1.', text)
+    text = re.sub(r'(?<!\w)f64\b|(?<=0)f64\b', 'f32', text).replace('binary64', 'binary32').replace('double', 'f32')
+    for word, other in sorted(NUMBERS.get(crate, {}).items(), key=lambda w: -len(w[0])):
+        text = re.sub(rf'(?<![\w{"" if word[0].isalpha() else "."}]){word}\b', other, text)
+    return text
+
+
+def source(crate, name, text):
+    for s in LEFT.get(crate, []):
+        module, item = s.split('::')
+        if name == module + '.rt':
+            text = without(text, item)
+    for s in SHARED.get(crate, []):
+        module, item = s.split('::')
+        there = crate if module == 'lib' else f'{crate}::{module}'
+        if name == module + '.rt':
+            text = without(text, item)
+            if item.islower():
+                text = re.sub(rf'(?<![\w:.]){item}(?=\()', f'{there}::{item}', text)
+            else:
+                text = imported(text, f'use {there}::{item};\n')
+        text = re.sub(rf'(?<![\w:])crate::{item}\b' if module == 'lib' else rf'(?<![\w:])(?:crate::)?{module}::{item}\b', f'{there}::{item}', text)
+    text = contracts(text, crate)
+    for floor in FLOORS:
+        shared = '|'.join(re.escape(s.replace('lib::', '')) for s in SHARED.get(floor, [])) or '-'
+        if floor != crate:
+            text = re.sub(rf'(?<![\w:·.]){floor}::(?!(?:{shared})\b)', f'{floor}32::', text)
+    return trimmed(common(text, crate))
+
+
+def proof(crate, where, text):
+    text = common(text, crate)
+    for a, b in ARGS.get(crate, []):
+        text = re.sub(a, b, text)
+    for a, b in PROOFS.get(crate, {}).get(where, []):
+        assert a in text, (crate, where, a)
+        text = text.replace(a, b)
+    uses = {w: home(w) for w in re.findall(r'\bwide[A-Z]\w*|\bkinds?-(?:at|set|long)\b', text)}
+    lines = ''.join(f'use {path(*uses[w], crate)}.{{{w}}}\n' for w in sorted(uses))
+    return re.sub(r'(?=use Rattle[^\n]*Statement)', lines, text, count=1)
+
+
+def marked(text, crate):
+    """The first line says that the file is made."""
+    first, rest = text.split('\n', 1)
+    return f'{first} At f32: made from crates/{crate} by narrow.py.\n{rest}'
+
+
+def made(crate):
+    base = os.path.join(HERE, 'crates', crate)
+    gone = [s.replace('lib::', '') for s in SHARED.get(crate, []) + LEFT.get(crate, [])]
+    gone += [s.replace('closes::', 'Filter::') for s in gone if s.startswith('closes::')] + OWN.get(crate, [])
+    for part in ('src', 'proofs'):
+        for folder, _, names in sorted(os.walk(os.path.join(base, part))):
+            for name in sorted(names):
+                rel = os.path.relpath(os.path.join(folder, name), base)
+                where = '::'.join(rel.split(os.sep)[1:-1])
+                if name[:-3] in gone or where in gone or where.split('::')[0] in gone:
+                    continue
+                text = open(os.path.join(folder, name), encoding='utf-8').read()
+                if name.endswith('.rt'):
+                    yield rel, marked(source(crate, name, text), crate)
+                elif name == 'Proof.antt':
+                    yield rel, marked(proof(crate, where, text), crate)
+
+
+def main(words):
+    check = '--check' in words
+    parted = 0
+    for crate in [w for w in words if not w.startswith('-')] or FLOORS:
+        for rel, text in made(crate):
+            there = os.path.join(HERE, 'crates', crate + '32', rel)
+            old = open(there, encoding='utf-8').read() if os.path.exists(there) else None
+            if old != text:
+                parted += 1
+                print(('parted: ' if check else 'wrote ') + os.path.relpath(there, HERE))
+                if not check:
+                    os.makedirs(os.path.dirname(there), exist_ok=True)
+                    open(there, 'w', encoding='utf-8').write(text)
+    return 1 if check and parted else 0
+
+
+sys.exit(main(sys.argv[1:]))
