@@ -1,4 +1,4 @@
--- THE CLAIM: no case of the table fails. One claim, computed. Assumes nothing.
+-- THE CLAIM: no case of the table fails, at either width. One claim, computed. Assumes nothing.
 use mathlib.Core.Path.{_≡_, refl}
 use mathlib.Core.List.{[]}
 use lib.Ieee.{ofInt, ofBits, toBits, add, sub, mul, rem, div, neg, lt, le, size, odd}
@@ -21,9 +21,9 @@ use Rattle.pairs.specs.Pairs.{pairStep}
 use Rattle.pairs.specs.NewPair.{newPairOf}
 use Rattle.demands.specs.Runs.{tells, told}
 use Rattle.demands.specs.PairRuns.{pairTells, pairTold}
-use Rattle.demands.specs.Written.{_is_, _are_, failing}
+use Rattle.demands.specs.Written.{_is_, _are_, failingAt}
 use Rattle.demands.specs.Cases.{cases}
 
-pub claim : failing cases ≡ []
+pub claim : failingAt cases ≡ []
 unfolding _is_ _are_ ofInt ofBits toBits add sub mul rem div neg lt le size odd allFinite aboveZero zeros front rootOf rooted rootUnits nearRoot floorRoot wrapOf halfTurn wrapStep brought totalOf placesOf builtOf rowOf rowsOf worked run rowsFrom columnOf columnsFrom unitAt lambdaOf scaleOf w0mOf w0cOf wiOf weightsPass pointAt inRange guarded searched searchedFrom Point.pointAt Point.pointRefusal step newOf tells told pairStep newPairOf pairTells pairTold
 claim = refl

@@ -36,7 +36,7 @@ use Rattle.demands.proofs.Leftover.{nothing-left-over}
 
 -- ---- two alike filters: the filter of C9, and the same with points, weights and scratch put at will
 
-pub alike : Alike at-first at-will
+pub alike : Alike (at-first binary64) at-will
 unfolding newOf allFinite aboveZero lt weightsPass lambdaOf scaleOf w0mOf w0cOf wiOf ofInt add sub mul div inRange
 alike = record { sheet = refl; track = record { x = refl; p = refl; stale₁ = refl; stale₂ = refl; shut₁ = refl; shut₂ = refl } }
 
@@ -46,13 +46,13 @@ at-will-yielded = put-at-will at-will (fresh-made 1 (int 2 ∷ []) (int 4 ∷ []
 
 -- ---- what is computed
 
-abbrev predicted : Float → Float → Float → List Call
+abbrev pub predicted : Float → Float → Float → List Call
 predicted a b c = setting (open-prediction three) ∷ closing (close-prediction (a ∷ b ∷ c ∷ [])) ∷ []
 
 abbrev corrected : Float → List Call
 corrected z = setting (open-correction three) ∷ measuring z (int 2 ∷ int 4 ∷ int 0 ∷ []) ∷ []
 
-abbrev lastX : List Told → List Float
+abbrev pub lastX : List Told → List Float
 lastX [] = []
 lastX (t ∷ []) = take 1 (t .x)
 lastX (t ∷ u ∷ ts) = lastX (u ∷ ts)
@@ -64,24 +64,24 @@ drew (t ∷ ts) = t .reply .given are (int 2 ∷ int 4 ∷ int 0 ∷ [])
 
 pub record Computed : Type 0 where
   -- the leftovers of the two differ: points, weights, and scratch
-  pub first-left : (leftovers (at-first .track) are (int 0 ∷ int 0 ∷ int 0 ∷ int 0 ∷ [])) ≡ true
+  pub first-left : (leftovers (at-first binary64 .track) are (int 0 ∷ int 0 ∷ int 0 ∷ int 0 ∷ [])) ≡ true
   pub will-left : (leftovers (at-will .track) are (int 3 ∷ int 7 ∷ int 6 ∷ int 7 ∷ [])) ≡ true
   -- what a run tells is not constant: two predictions on one filter that end at different x
   pub ends-at-2 : (lastX (told binary64 at-will (predicted (int 2) (int 4) (int 0))) are (int 2 ∷ [])) ≡ true
   pub ends-at-3 : (lastX (told binary64 at-will (predicted (int 3) (int 5) (int 1))) are (int 3 ∷ [])) ≡ true
   -- calls lead to filters that aren't stale, and to such with a correction open
-  pub in-use : ranTo binary64 at-first (predicted (int 2) (int 4) (int 0)) .track .stale ≡ false
-  pub still-open : isCorrecting (ranTo binary64 at-first (predicted (int 2) (int 4) (int 0) ++ (setting (open-correction three) ∷ [])) .track .stage) ≡ true
+  pub in-use : ranTo binary64 (at-first binary64) (predicted (int 2) (int 4) (int 0)) .track .stale ≡ false
+  pub still-open : isCorrecting (ranTo binary64 (at-first binary64) (predicted (int 2) (int 4) (int 0) ++ (setting (open-correction three) ∷ [])) .track .stage) ≡ true
   -- a reading of the stale mark is taken
-  pub read-taken : step binary64 at-first (reading read-stale) .reply .refusal .number ≡ 0
+  pub read-taken : step binary64 (at-first binary64) (reading read-stale) .reply .refusal .number ≡ 0
   -- the table fails for constant numbers at C9, for a filter handed back untouched at C9, and for a redraw at the first correction only at C11 and again at the next draw
   pub constant-fails : take 2 (failing (tableBy constant)) ≡ "C9 open" ∷ "C9 close" ∷ []
   pub untouched-fails : take 1 (failing (tableBy untouched)) ≡ "C9 close" ∷ []
   pub first-only-fails : failing (tableBy firstOnly) ≡ "C11 open" ∷ "drawn afresh once more" ∷ []
   -- with the points that the last hands out observed unchanged, x is 2.8125 where C11 has 2.75
-  pub first-only-x : (lastX (toldBy firstOnly at-first (predicted (int 2) (int 4) (int 0) ++ (corrected (int 3) ++ corrected (frac 17 4)))) are (frac 45 16 ∷ [])) ≡ true
+  pub first-only-x : (lastX (toldBy firstOnly (at-first binary64) (predicted (int 2) (int 4) (int 0) ++ (corrected (int 3) ++ corrected (frac 17 4)))) are (frac 45 16 ∷ [])) ≡ true
   -- it draws afresh on the first of the two alike filters and not on the second
-  pub first-drew : drew (toldBy firstOnly at-first (corrected (int 3))) ≡ true
+  pub first-drew : drew (toldBy firstOnly (at-first binary64) (corrected (int 3))) ≡ true
   pub will-drew : drew (toldBy firstOnly at-will (corrected (int 3))) ≡ false
 
 pub computed : Computed
@@ -110,19 +110,19 @@ unfolding toldBy told
 toldBy-right s [] = refl
 toldBy-right s (c ∷ cs) = ap (λ (ts : List Told). tells (step binary64 s c) ∷ ts) (toldBy-right (step binary64 s c .filter) cs)
 
-pub table-right : tableBy right ≡ callCases
-table-right = ap (against story) (toldBy-right at-first (map (λ e. e .1 .0) story))
+pub table-right : tableBy right ≡ callCases binary64
+table-right = ap (against story) (toldBy-right (at-first binary64) (map (λ e. e .1 .0) story))
 
 -- A build that refuses everything breaks "exactly when": whatever number it gives, it gives it where nothing is due.
 pub refusing-stopped : (r : Refusal) → ExactlyWhen (refusing r) → ⊥
 refusing-stopped r e =
     let c = reading read-stale in
-    let z = exactly binary64 at-first c r .1 (e at-first c r .0 refl) in
+    let z = exactly binary64 (at-first binary64) c r .1 (e (at-first binary64) c r .0 refl) in
     omega (arith, number-above r, number-of z, computed .read-taken)
 
 -- One that redraws at the first correction only breaks demand 3: on two alike filters it hands out different points.
 pub first-only-stopped : NothingLeftOver firstOnly → ⊥
-first-only-stopped e = two-ways (computed .first-drew) (ap drew (e at-first at-will alike (corrected (int 3))) ∙ computed .will-drew)
+first-only-stopped e = two-ways (computed .first-drew) (ap drew (e (at-first binary64) at-will alike (corrected (int 3))) ∙ computed .will-drew)
 
 -- The right build keeps both.
 pub right-exactly : ExactlyWhen right
@@ -136,6 +136,6 @@ three-is-refused e = omega arith
 
 -- ---- calls struck out: an open with a setting that is refused and its abandon, and then an abandon that is refused; a reading stays
 pub struck :
-    Struck binary64 at-first (setting (open-prediction three) ∷ setting (set-x three) ∷ abandon ∷ abandon ∷ reading read-stale ∷ []) (reading read-stale ∷ [])
+    Struck binary64 (at-first binary64) (setting (open-prediction three) ∷ setting (set-x three) ∷ abandon ∷ abandon ∷ reading read-stale ∷ []) (reading read-stale ∷ [])
 unfolding ofInt add sub mul rem div neg lt le size odd allFinite aboveZero zeros front rootOf rooted rootUnits nearRoot floorRoot totalOf placesOf rowOf rowsOf worked run rowsFrom columnOf columnsFrom lambdaOf scaleOf w0mOf w0cOf wiOf weightsPass pointAt inRange guarded searched searchedFrom step newOf ranTo
 struck = opening-struck (setting (open-prediction three)) (setting (set-x three) ∷ []) refl (refl, refl) (refused-struck three-is-refused (call-kept none-left))

@@ -1,11 +1,11 @@
--- THE TABLE OF CASES: document 01's numbers to check by hand, C1 to C12, and a run each for document 02's A1 (the flat close), A3 (settings mark stale), A4 (a pair on one sheet) and A5 (where the bad number is); each a name and a test that antt computes. Definitions only.
+-- THE TABLE OF CASES: document 01's numbers to check by hand, C1 to C12, and a run each for document 02's A1 (the flat close), A3 (settings mark stale), A4 (a pair on one sheet) and A5 (where the bad number is); each a name and a test that antt computes. At f64, and at f32 all but A1 and A4 (A6). Definitions only.
 use Prim.Native.Nat.{ℕ, _+_}
 use Prim.Native.String.{String}
 use mathlib.Core.Bool.{Bool, true, false, _&&_, Bool·beq}
 use mathlib.Core.List.{List, [], _∷_, _++_, map}
-use lib.ListN.{length, take, getD, set, replicate}
+use lib.ListN.{length, take, drop, getD, set, replicate}
 use lib.Dec.{eqb}
-use lib.Ieee.{Float, nan, inf, binary64, ofBits, neg}
+use lib.Ieee.{Float, nan, inf, Format, binary32, binary64, prec, ofBits, neg}
 use Rattle.floats.specs.declared.Verdict.{Verdict}
 use Rattle.floats.specs.Refusal.{PIVOT, placeless, taken, Outcome, refused, accepted, refusal, or}
 use Rattle.floats.specs.Numbers.{zeros}
@@ -17,6 +17,7 @@ use Rattle.angles.specs.declared.Kind.{Kind}
 use Rattle.angles.specs.declared.Residual.{Residual}
 use Rattle.angles.specs.declared.Residual.the-variants.{Plain, Turn}
 use Rattle.matrix.specs.Results.{Result, numbers, pivot, rooting, worked, results}
+use Rattle.matrix.specs.Sums.{plusOf}
 use Rattle.matrix.specs.Factor.{factorOf}
 use Rattle.sigma.specs.declared.Params.{Params}
 use Rattle.sigma.specs.Weights.{lambdaOf, scaleOf, w0mOf, w0cOf, wiOf, weightsOf}
@@ -59,12 +60,12 @@ abbrev pub accepts : Outcome Float → Float → Bool
 accepts (refused r) v = false
 accepts (accepted u) v = u is v
 
-abbrev pub rootIs : Float → Float → Bool
-rootIs x r = accepts (rootOutcome binary64 x) r
+abbrev pub rootIs : Format → Float → Float → Bool
+rootIs f x r = accepts (rootOutcome f x) r
 
 -- the wrap of d by 180
-abbrev pub wrapIs : Float → Float → Bool
-wrapIs d w = let a = wrapped (wrapOf binary64 d (int 180)) in says (a .refusal) 0 0 && (a .value is w)
+abbrev pub wrapIs : Format → Float → Float → Bool
+wrapIs f d w = let a = wrapped (wrapOf f d (int 180)) in says (a .refusal) 0 0 && (a .value is w)
 
 -- rows of two
 abbrev pub rows : Float → Float → Float → Float → List Float
@@ -77,15 +78,15 @@ checked (pivot r x) = x
 checked (rooting x) = x
 
 -- what C10's correction starts from
-abbrev pub c10 : Head
-c10 =
-    weightedHead binary64
-    (given 1 1 (int 2 ∷ []) (int 5 ∷ []) (int 2 ∷ int 4 ∷ int 0 ∷ []) (int 2 ∷ int 4 ∷ int 0 ∷ []) (w0mOf binary64 1 c1) (weightsOf binary64 1 c1) (int 3 ∷ []) (int 12 ∷ []) (plain ∷ []) (plain ∷ []))
+abbrev pub c10 : Format → Head
+c10 f =
+    weightedHead f
+    (given 1 1 (int 2 ∷ []) (int 5 ∷ []) (int 2 ∷ int 4 ∷ int 0 ∷ []) (int 2 ∷ int 4 ∷ int 0 ∷ []) (w0mOf f 1 c1) (weightsOf f 1 c1) (int 3 ∷ []) (int 12 ∷ []) (plain ∷ []) (plain ∷ []))
 
 -- ---- C9 to C12 through the calls, one run: a state of 2 with P = 4, Q = 1, parameters C1
 
-abbrev pub at-first : Filter
-at-first = newAnswer binary64 1 (int 2 ∷ []) (int 4 ∷ []) (int 1 ∷ []) c1 .filter
+abbrev pub at-first : Format → Filter
+at-first f = newAnswer f 1 (int 2 ∷ []) (int 4 ∷ []) (int 1 ∷ []) c1 .filter
 
 -- a lent buffer of three
 abbrev pub three : List Float
@@ -221,8 +222,8 @@ two a b = a ∷ b ∷ []
 abbrev pub four : Float → Float → Float → Float → List Float
 four a b c d = a ∷ b ∷ c ∷ d ∷ []
 
-abbrev pub twoStates : Filter
-twoStates = newAnswer binary64 2 (two (int 1) (int 2)) (four (int 4) (int 0) (int 0) (int 4)) (four (int 1) (int 0) (int 0) (int 1)) kappaTwo .filter
+abbrev pub twoStates : Format → Filter
+twoStates f = newAnswer f 2 (two (int 1) (int 2)) (four (int 4) (int 0) (int 0) (int 4)) (four (int 1) (int 0) (int 0) (int 1)) kappaTwo .filter
 
 -- a lent buffer of ten, and the points that come
 abbrev pub ten : List Float
@@ -287,7 +288,12 @@ placeStory =
     ∷ ("A5 6 tells no place", (searching flawed (ones 10) (two (int 1) (int 1)) (kindsOf Plain (Turn (int 0)) Plain), placing 6 0 [] 4 0))
     ∷ ("A5 a pivot of S", (searching flawed (ones 10) (two (int 1) (int 1)) (kindsOf Plain Plain bad), placing 8 1 [] 4 0))
     ∷ ("A5 the first pivot of S", (searching (zeros 4) (ones 10) (two (int 1) (int 1)) (kindsOf Plain Plain bad), placing 8 0 [] 4 0))
-    ∷ ("A5 flat, R first", (closing (close-correction-flat 2 (badAt 0) (badAt 3) (badAt 0)), placing 53 3 [] 4 0))
+    ∷ []
+
+-- and, as the run goes on, by the flat close
+abbrev pub flatPlaceStory : List (String × (Call × Told))
+flatPlaceStory =
+    ("A5 flat, R first", (closing (close-correction-flat 2 (badAt 0) (badAt 3) (badAt 0)), placing 53 3 [] 4 0))
     ∷ ("A5 flat, points before z", (closing (close-correction-flat 2 (badAt 0) flawed (badAt 9)), placing 54 9 [] 4 0))
     ∷ ("A5 flat, a pivot of S", (closing (close-correction-flat 2 (two (int 1) (int 1)) flawed (ones 10)), placing 8 1 [] 4 0))
     ∷ ("A5 given up again", (abandon, placing 0 0 [] 4 0))
@@ -312,8 +318,8 @@ sidesStory =
     ∷ []
 
 -- a refused New, of two states or of a pair, has no states (`refused-new` in Demand1 and Pairs has all of it)
-abbrev pub newIs : List Float → List Float → List Float → Params → ℕ → ℕ → Bool
-newIs x p q par number place = let a = newAnswer binary64 2 x p q par in says (a .refusal) number place && eqb (a .filter .sheet .n) 0
+abbrev pub newIs : Format → List Float → List Float → List Float → Params → ℕ → ℕ → Bool
+newIs f x p q par number place = let a = newAnswer f 2 x p q par in says (a .refusal) number place && eqb (a .filter .sheet .n) 0
 
 abbrev pub newPairIs : ℕ → List Float → List Float → List Float → List Float → List Float → Params → ℕ → ℕ → Bool
 newPairIs n x₁ p₁ x₂ p₂ q par number place = let a = newPairAnswer binary64 n x₁ p₁ x₂ p₂ q par in says (a .refusal) number place && eqb (a .pair .sheet .n) 0
@@ -328,84 +334,110 @@ against [] ts = []
 against (e ∷ es) [] = (e .0, false) ∷ against es []
 against (e ∷ es) (t ∷ ts) = (e .0, agrees t (e .1 .1)) ∷ against es ts
 
+-- ---- what hangs on the format: C5's small number, twice the exponent of its root; the root of 2; and what makes an entry of a factor too large, 2 ^ −(2k) under a root and 2 ^ j divided by that
+
+abbrev pub halfLow : Format → ℕ
+halfLow binary32 = 74
+halfLow binary64 = 537
+
+abbrev pub rootOfTwo : Format → Float
+rootOfTwo binary32 = ofBits binary32 0x3FB5_04F3
+rootOfTwo binary64 = ofBits binary64 0x3FF6_A09E_667F_3BCD
+
+abbrev pub overflowing : Format → List Float
+overflowing binary32 = rows (two-to-minus 126) (int 0) (two-to 70) (int 1)
+overflowing binary64 = rows (two-to-minus 1022) (int 0) (two-to 600) (int 1)
+
 -- ---- THE TABLE
 
-abbrev pub leafCases : List (String × Bool)
-leafCases =
-    ("C1 lambda", lambdaOf binary64 1 c1 is int 0)
-    ∷ ("C1 w0m", w0mOf binary64 1 c1 is int 0)
-    ∷ ("C1 w0c", w0cOf binary64 1 c1 is int 0)
-    ∷ ("C1 wi", wiOf binary64 1 c1 is frac 1 2)
-    ∷ ("C2 w0m", w0mOf binary64 1 c2 is frac 1 2)
-    ∷ ("C2 w0c", w0cOf binary64 1 c2 is frac 5 2)
-    ∷ ("C2 wi", wiOf binary64 1 c2 is frac 1 4)
-    ∷ ("C3 w0m", w0mOf binary64 2 c1 is int 0)
-    ∷ ("C3 w0c", w0cOf binary64 2 c1 is int 0)
-    ∷ ("C3 wi", wiOf binary64 2 c1 is frac 1 4)
-    ∷ ("C4 N", scaleOf binary64 1 c4 is int 0)
-    ∷ ("C4 refused", says (newAnswer binary64 1 (int 2 ∷ []) (int 4 ∷ []) (int 1 ∷ []) c4 .refusal) 6 0)
-    ∷ ("C5 root of 16", rootIs (int 16) (int 4))
-    ∷ ("C5 root of 2^−1074", rootIs (two-to-minus 1074) (two-to-minus 537))
-    ∷ ("C5 root of 2", rootIs (int 2) (ofBits binary64 0x3FF6_A09E_667F_3BCD))
-    ∷ ("C6 350", wrapIs (int 350) (minus 10))
-    ∷ ("C6 190", wrapIs (int 190) (minus 170))
-    ∷ ("C6 180", wrapIs (int 180) (int 180))
-    ∷ ("C6 −180", wrapIs (minus 180) (int 180))
-    ∷ ("C6 540", wrapIs (int 540) (int 180))
-    ∷ ("C6 −350", wrapIs (minus 350) (int 10))
-    ∷ ("C7", take 4 (or [] (worked (factorOf binary64 PIVOT (rows (int 4) (int 2) (int 2) (int 5)) 2))) are (int 2 ∷ int 0 ∷ int 1 ∷ int 2 ∷ []))
-    ∷ ("C8 second pivot", checked (getD (results (factorOf binary64 PIVOT (rows (int 1) (int 2) (int 2) (int 1)) 2)) 2 (numbers [])) is minus 3)
-    ∷ ("C8 refused", says (refusal (worked (factorOf binary64 PIVOT (rows (int 1) (int 2) (int 2) (int 1)) 2))) 7 1)
-    ∷ ("A5 a factor entry", says (refusal (worked (factorOf binary64 PIVOT (rows (two-to-minus 1022) (int 0) (two-to 600) (int 1)) 2))) 9 0)
-    ∷ ("A5 point 5 of five", says (pointRefusal binary64 (ones 10) 2 5) 1 0)
-    ∷ ("A5 point 4, whose numbers aren't judged", says (pointRefusal binary64 (badAt 8) 2 4) 0 0)
-    ∷ ("A5 root of −1", says (refusal (rootOutcome binary64 (minus 1))) 56 0)
-    ∷ ("A5 root of an infinity", says (refusal (rootOutcome binary64 (inf false))) 56 0)
-    ∷ ("A5 wrap of a NaN", says (wrapped (wrapOf binary64 nan (int 180)) .refusal) 56 0)
-    ∷ ("A5 wrap by an infinity", says (wrapped (wrapOf binary64 (int 1) (inf false)) .refusal) 56 0)
-    ∷ ("A5 wrap of a NaN by 0", says (wrapped (wrapOf binary64 nan (int 0)) .refusal) 56 0)
-    ∷ ("A5 wrap by 0", says (wrapped (wrapOf binary64 (int 1) (int 0)) .refusal) 6 0)
-    ∷ ("A5 a turn by a NaN", says (refusal (kindOf binary64 (record { residual = Turn nan }))) 56 0)
-    ∷ ("A5 a turn by an infinity", says (refusal (kindOf binary64 (record { residual = Turn (inf true) }))) 56 0)
-    ∷ ("A5 a turn by 0", says (refusal (kindOf binary64 (record { residual = Turn (int 0) }))) 6 0)
-    ∷ ("C10 S", take 1 (c10 .s) are (int 16 ∷ []))
-    ∷ ("C10 K", take 1 (gain binary64 c10) are (frac 1 4 ∷ []))
-    ∷ ("C12 mean", take 1 (meanOf binary64 (int 179 ∷ minus 171 ∷ int 169 ∷ []) 1 2 (w0mOf binary64 1 c1) (weightsOf binary64 1 c1) (record { residual = Turn (int 180) } ∷ [])) are (int 179 ∷ []))
-    ∷ []
+module _ (f : Format) where
+  abbrev pub leafCases : List (String × Bool)
+  leafCases =
+      ("C1 lambda", lambdaOf f 1 c1 is int 0)
+      ∷ ("C1 w0m", w0mOf f 1 c1 is int 0)
+      ∷ ("C1 w0c", w0cOf f 1 c1 is int 0)
+      ∷ ("C1 wi", wiOf f 1 c1 is frac 1 2)
+      ∷ ("C2 w0m", w0mOf f 1 c2 is frac 1 2)
+      ∷ ("C2 w0c", w0cOf f 1 c2 is frac 5 2)
+      ∷ ("C2 wi", wiOf f 1 c2 is frac 1 4)
+      ∷ ("C3 w0m", w0mOf f 2 c1 is int 0)
+      ∷ ("C3 w0c", w0cOf f 2 c1 is int 0)
+      ∷ ("C3 wi", wiOf f 2 c1 is frac 1 4)
+      ∷ ("C4 N", scaleOf f 1 c4 is int 0)
+      ∷ ("C4 refused", says (newAnswer f 1 (int 2 ∷ []) (int 4 ∷ []) (int 1 ∷ []) c4 .refusal) 6 0)
+      ∷ ("C5 root of 16", rootIs f (int 16) (int 4))
+      ∷ ("C5 root of 2^−1074, at f32 of 2^−148", rootIs f (two-to-minus (halfLow f + halfLow f)) (two-to-minus (halfLow f)))
+      ∷ ("C5 root of 2", rootIs f (int 2) (rootOfTwo f))
+      ∷ ("C6 350", wrapIs f (int 350) (minus 10))
+      ∷ ("C6 190", wrapIs f (int 190) (minus 170))
+      ∷ ("C6 180", wrapIs f (int 180) (int 180))
+      ∷ ("C6 −180", wrapIs f (minus 180) (int 180))
+      ∷ ("C6 540", wrapIs f (int 540) (int 180))
+      ∷ ("C6 −350", wrapIs f (minus 350) (int 10))
+      ∷ ("C7", take 4 (or [] (worked (factorOf f PIVOT (rows (int 4) (int 2) (int 2) (int 5)) 2))) are (int 2 ∷ int 0 ∷ int 1 ∷ int 2 ∷ []))
+      ∷ ("C8 second pivot", checked (getD (results (factorOf f PIVOT (rows (int 1) (int 2) (int 2) (int 1)) 2)) 2 (numbers [])) is minus 3)
+      ∷ ("C8 refused", says (refusal (worked (factorOf f PIVOT (rows (int 1) (int 2) (int 2) (int 1)) 2))) 7 1)
+      ∷ ("A5 a factor entry", says (refusal (worked (factorOf f PIVOT (overflowing f) 2))) 9 0)
+      ∷ ("A5 point 5 of five", says (pointRefusal f (ones 10) 2 5) 1 0)
+      ∷ ("A5 point 4, whose numbers aren't judged", says (pointRefusal f (badAt 8) 2 4) 0 0)
+      ∷ ("A5 root of −1", says (refusal (rootOutcome f (minus 1))) 56 0)
+      ∷ ("A5 root of an infinity", says (refusal (rootOutcome f (inf false))) 56 0)
+      ∷ ("A5 wrap of a NaN", says (wrapped (wrapOf f nan (int 180)) .refusal) 56 0)
+      ∷ ("A5 wrap by an infinity", says (wrapped (wrapOf f (int 1) (inf false)) .refusal) 56 0)
+      ∷ ("A5 wrap of a NaN by 0", says (wrapped (wrapOf f nan (int 0)) .refusal) 56 0)
+      ∷ ("A5 wrap by 0", says (wrapped (wrapOf f (int 1) (int 0)) .refusal) 6 0)
+      ∷ ("A5 a turn by a NaN", says (refusal (kindOf f (record { residual = Turn nan }))) 56 0)
+      ∷ ("A5 a turn by an infinity", says (refusal (kindOf f (record { residual = Turn (inf true) }))) 56 0)
+      ∷ ("A5 a turn by 0", says (refusal (kindOf f (record { residual = Turn (int 0) }))) 6 0)
+      ∷ ("A6 a tie, rounded to even", plusOf f 1 (two-to (prec f) ∷ []) (int 1 ∷ []) are (two-to (prec f) ∷ zeros 63))
+      ∷ ("C10 S", take 1 (c10 f .s) are (int 16 ∷ []))
+      ∷ ("C10 K", take 1 (gain f (c10 f)) are (frac 1 4 ∷ []))
+      ∷ ("C12 mean", take 1 (meanOf f (int 179 ∷ minus 171 ∷ int 169 ∷ []) 1 2 (w0mOf f 1 c1) (weightsOf f 1 c1) (record { residual = Turn (int 180) } ∷ [])) are (int 179 ∷ []))
+      ∷ []
 
-abbrev pub callCases : List (String × Bool)
-callCases = against story (told binary64 at-first (map (λ e. e .1 .0) story))
+  abbrev pub callCases : List (String × Bool)
+  callCases = against story (told f (at-first f) (map (λ e. e .1 .0) story))
 
+  abbrev pub settingCases : List (String × Bool)
+  settingCases = against settingStory (told f (at-first f) (map (λ e. e .1 .0) settingStory))
+
+  -- New with bad numbers in two slices or more, or in two parameters; parameters without a bad number fail 6, as kappa = −2 makes N 0
+  abbrev pub placeCases : List (String × Bool)
+  placeCases =
+      let fine = ones 10 in
+      let unfit : Params = params (int 1) (int 0) (minus 2) in
+      ("A5 New, x before P", newIs f (badAt 1) (badAt 0) fine unfit 51 1)
+      ∷ ("A5 New, P before Q", newIs f fine (badAt 3) (badAt 0) unfit 52 3)
+      ∷ ("A5 New, Q before parameters", newIs f fine fine (badAt 2) (params nan nan nan) 53 2)
+      ∷ ("A5 New, beta before kappa", newIs f fine fine fine (params (int 1) nan nan) 56 1)
+      ∷ ("A5 New, 6", newIs f fine fine fine unfit 6 0)
+      ∷ against placeStory (told f (twoStates f) (map (λ e. e .1 .0) placeStory))
+
+  -- of a filter of either width
+  abbrev pub filterCases : List (String × Bool)
+  filterCases = leafCases ++ (callCases ++ (settingCases ++ placeCases))
+
+-- of the flat close; on two states the run of `placeStory` goes on
 abbrev pub flatCases : List (String × Bool)
-flatCases = against flatStory (told binary64 at-first (map (λ e. e .1 .0) flatStory))
+flatCases =
+    against flatStory (told binary64 (at-first binary64) (map (λ e. e .1 .0) flatStory))
+    ++ drop (length placeStory) (against (placeStory ++ flatPlaceStory) (told binary64 (twoStates binary64) (map (λ e. e .1 .0) (placeStory ++ flatPlaceStory))))
 
-abbrev pub settingCases : List (String × Bool)
-settingCases = against settingStory (told binary64 at-first (map (λ e. e .1 .0) settingStory))
-
--- New with bad numbers in two slices or more, or in two parameters; parameters without a bad number fail 6, as kappa = −2 makes N 0
-abbrev pub placeCases : List (String × Bool)
-placeCases =
+abbrev pub pairCases : List (String × Bool)
+pairCases =
     let fine = ones 10 in
     let unfit : Params = params (int 1) (int 0) (minus 2) in
-    ("A5 New, x before P", newIs (badAt 1) (badAt 0) fine unfit 51 1)
-    ∷ ("A5 New, P before Q", newIs fine (badAt 3) (badAt 0) unfit 52 3)
-    ∷ ("A5 New, Q before parameters", newIs fine fine (badAt 2) (params nan nan nan) 53 2)
-    ∷ ("A5 New, beta before kappa", newIs fine fine fine (params (int 1) nan nan) 56 1)
-    ∷ ("A5 New, 6", newIs fine fine fine unfit 6 0)
+    ("A4 New, a short P and a number", newPairIs 1 (nan ∷ []) (int 4 ∷ []) (int 3 ∷ []) [] (int 1 ∷ []) c4 2 0)
+    ∷ ("A4 New, a number and parameters", newPairIs 1 (int 2 ∷ []) (int 4 ∷ []) (int 3 ∷ []) (nan ∷ []) (int 1 ∷ []) c4 52 0)
+    ∷ ("A4 New, parameters", newPairIs 1 (int 2 ∷ []) (int 4 ∷ []) (int 3 ∷ []) (int 4 ∷ []) (int 1 ∷ []) c4 6 0)
     ∷ ("A5 New of a pair, the first x before all", newPairIs 2 (badAt 1) (badAt 0) (badAt 0) (badAt 0) (badAt 0) (params nan nan nan) 51 1)
     ∷ ("A5 New of a pair, the first P before the second x", newPairIs 2 fine (badAt 2) (badAt 0) fine fine unfit 52 2)
     ∷ ("A5 New of a pair, the second x before its P", newPairIs 2 fine fine (badAt 1) (badAt 0) fine unfit 51 1)
     ∷ ("A5 New of a pair, the second P before Q", newPairIs 2 fine fine fine (badAt 3) (badAt 0) unfit 52 3)
     ∷ ("A5 New of a pair, Q before parameters", newPairIs 2 fine fine fine fine (badAt 2) (params nan nan nan) 53 2)
     ∷ ("A5 New of a pair, beta before kappa", newPairIs 2 fine fine fine fine fine (params (int 1) nan nan) 56 1)
-    ∷ (against placeStory (told binary64 twoStates (map (λ e. e .1 .0) placeStory)) ++ against sidesStory (map (λ t. t .told) (pairTold binary64 bothOfTwo (map (λ e. e .1 .0) sidesStory))))
+    ∷ (against pairStory (map (λ t. t .told) (pairTold binary64 both (map (λ e. e .1 .0) pairStory))) ++ against sidesStory (map (λ t. t .told) (pairTold binary64 bothOfTwo (map (λ e. e .1 .0) sidesStory))))
 
-abbrev pub pairCases : List (String × Bool)
-pairCases =
-    ("A4 New, a short P and a number", newPairIs 1 (nan ∷ []) (int 4 ∷ []) (int 3 ∷ []) [] (int 1 ∷ []) c4 2 0)
-    ∷ ("A4 New, a number and parameters", newPairIs 1 (int 2 ∷ []) (int 4 ∷ []) (int 3 ∷ []) (nan ∷ []) (int 1 ∷ []) c4 52 0)
-    ∷ ("A4 New, parameters", newPairIs 1 (int 2 ∷ []) (int 4 ∷ []) (int 3 ∷ []) (int 4 ∷ []) (int 1 ∷ []) c4 6 0)
-    ∷ against pairStory (map (λ t. t .told) (pairTold binary64 both (map (λ e. e .1 .0) pairStory)))
-
-abbrev pub cases : List (String × Bool)
-cases = leafCases ++ (callCases ++ (flatCases ++ (settingCases ++ (placeCases ++ pairCases))))
+-- by width
+abbrev pub cases : List (String × List (String × Bool))
+cases = ("f64", filterCases binary64 ++ (flatCases ++ pairCases)) ∷ ("f32", filterCases binary32) ∷ []

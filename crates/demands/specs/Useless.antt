@@ -39,7 +39,7 @@ toldBy b s (c ∷ cs) = tells (b s c) ∷ toldBy b (b s c .filter) cs
 
 -- the table, C9 to C12 through the calls
 abbrev pub tableBy : Build → List (String × Bool)
-tableBy b = against story (toldBy b at-first (map (λ e. e .1 .0) story))
+tableBy b = against story (toldBy b (at-first binary64) (map (λ e. e .1 .0) story))
 
 -- demand 3: nothing left over counts
 abbrev pub NothingLeftOver : Build → Type 0
@@ -91,7 +91,7 @@ abbrev pub strewn : Track → Float → Track
 strewn t v = track (t .x) (t .p) (replicate 17 v) (replicate 136 (int 3)) (t .stale) (t .stage) (replicate 17 v) (replicate 136 (int 6))
 
 abbrev pub at-will : Filter
-at-will = filter (at-first .sheet) (strewn (at-first .track) (int 7))
+at-will = filter (at-first binary64 .sheet) (strewn (at-first binary64 .track) (int 7))
 
 -- the first of each
 abbrev pub leftovers : Track → List Float

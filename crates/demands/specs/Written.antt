@@ -2,12 +2,12 @@
 use Prim.Native.Nat.{ℕ, zero, suc}
 use Prim.Native.String.{String}
 use mathlib.Core.Bool.{Bool, true, false, _&&_}
-use mathlib.Core.List.{List, [], _∷_}
+use mathlib.Core.List.{List, [], _∷_, _++_, map}
 use lib.IntN.{pos, negsuc}
 use lib.Dec.{eqb}
 use lib.Ieee.{Float, fin, binary64, ofInt, div, neg, toBits}
 
--- k, −k, and a / b, for fractions that a double holds
+-- k, −k, and a / b, for numbers that an f32 holds, and so a double: they are the same values in either format
 abbrev pub int : ℕ → Float
 int k = ofInt binary64 (pos k)
 
@@ -25,7 +25,7 @@ abbrev pub two-to-minus : ℕ → Float
 two-to-minus zero = two-to 0
 two-to-minus (suc k) = fin false 1 (negsuc k)
 
--- the same bits
+-- the same bits (each f32 is a double too, so these tell it from every other)
 infix 50 _is_ _are_
 unfoldable pub _is_ : Float → Float → Bool
 x is y = eqb (toBits binary64 x) (toBits binary64 y)
@@ -46,3 +46,8 @@ kept false s l = s ∷ l
 abbrev pub failing : List (String × Bool) → List String
 failing [] = []
 failing (c ∷ cs) = kept (c .1) (c .0) (failing cs)
+
+-- each with the width of its table
+abbrev pub failingAt : List (String × List (String × Bool)) → List (String × String)
+failingAt [] = []
+failingAt (t ∷ ts) = map (λ (name : String). (t .0, name)) (failing (t .1)) ++ failingAt ts

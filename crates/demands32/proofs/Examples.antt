@@ -1,0 +1,53 @@
+-- Computed examples at f32: alike filters with different leftovers exist, the demands speak of them, and what they tell is not constant. Assumes nothing.
+use mathlib.Core.Path.{_≡_, refl}
+use mathlib.Core.Bool.{true}
+use mathlib.Core.List.{[], _∷_}
+use lib.Ieee.{binary32, ofInt, toBits, add, sub, mul, rem, div, neg, lt, le, size, odd}
+use Rattle.floats.specs.Numbers.{allFinite, aboveZero, zeros}
+use Rattle.floats.specs.Search.{searched, searchedFrom}
+use Rattle.floats.specs.Fronts.{front}
+use Rattle.root.specs.Definition.{rootOf, rooted, rootUnits, nearRoot, floorRoot}
+use Rattle.angles.specs.Wrap.{halfTurn, wrapStep, brought}
+use Rattle.matrix.specs.Folds.{totalOf, placesOf, builtOf, rowOf, rowsOf}
+use Rattle.matrix.specs.Results.{worked, run}
+use Rattle.matrix.specs.Factor.{rowsFrom, columnOf, columnsFrom}
+use Rattle.sigma.specs.Weights.{lambdaOf, scaleOf, w0mOf, w0cOf, wiOf, weightsPass}
+use Rattle.sigma.specs.Draw.{pointAt}
+use Rattle.filter.specs.Asked.{inRange, guarded}
+use Rattle.filter.specs.Steps.{step}
+use Rattle.filter.specs.New.{newOf}
+use Rattle.filter32.specs.declared.Filter.{Filter}
+use Rattle.filter32.specs.Wide.{wideTrack}
+use Rattle.angles32.specs.Wide.{wideKinds}
+use Rattle.demands.specs.Written.{int, _is_, _are_}
+use Rattle.demands.specs.Cases.{at-first, c1}
+use Rattle.demands.specs.Useless.{at-will, leftovers}
+use Rattle.demands.proofs.Examples.{predicted, lastX}
+use Rattle.demands32.specs.Narrow.{narrowParams, narrowKinds, narrowFilter}
+use Rattle.demands32.specs.Runs.{told, Alike, Yielded, fresh-made, put-at-will}
+
+-- the filter of C9 at f32, and the same with points, weights and scratch put at will
+abbrev first-one : Filter
+first-one = narrowFilter (at-first binary32)
+
+abbrev second-one : Filter
+second-one = narrowFilter at-will
+
+pub alike : Alike first-one second-one
+unfolding newOf allFinite aboveZero lt weightsPass lambdaOf scaleOf w0mOf w0cOf wiOf ofInt add sub mul div inRange
+alike = record { sheet = refl; track = record { x = refl; p = refl; stale₁ = refl; stale₂ = refl; shut₁ = refl; shut₂ = refl } }
+
+pub second-yielded : Yielded second-one
+second-yielded = put-at-will second-one (fresh-made 1 (int 2 ∷ []) (int 4 ∷ []) (int 1 ∷ []) (narrowParams c1)) alike
+
+pub record Computed : Type 0 where
+  -- the leftovers of the two differ
+  pub first-left : (leftovers (wideTrack (first-one .track)) are (int 0 ∷ int 0 ∷ int 0 ∷ int 0 ∷ [])) ≡ true
+  pub second-left : (leftovers (wideTrack (second-one .track)) are (int 3 ∷ int 7 ∷ int 6 ∷ int 7 ∷ [])) ≡ true
+  -- two predictions on one filter that end at different x
+  pub ends-at-2 : (lastX (told second-one (predicted (int 2) (int 4) (int 0))) are (int 2 ∷ [])) ≡ true
+  pub ends-at-3 : (lastX (told second-one (predicted (int 3) (int 5) (int 1))) are (int 3 ∷ [])) ≡ true
+
+pub computed : Computed
+unfolding halfTurn wrapStep brought _is_ _are_ ofInt toBits add sub mul rem div neg lt le size odd allFinite aboveZero zeros front rootOf rooted rootUnits nearRoot floorRoot totalOf placesOf builtOf rowOf rowsOf worked run rowsFrom columnOf columnsFrom lambdaOf scaleOf w0mOf w0cOf wiOf weightsPass pointAt inRange guarded searched searchedFrom step newOf told wideKinds narrowKinds
+computed = record { first-left = refl; second-left = refl; ends-at-2 = refl; ends-at-3 = refl }

@@ -1,0 +1,1 @@
+// No code: the demands of the f32 filter, as theorems.
