@@ -67,6 +67,15 @@ ARGS = {
         (r'(→|in) (c \.generate-sigma-points \.result)(?= ≡)', r'\1 wideDrawn (\2)'), (r'(→|in) (c \.(?:reconstruct-prediction|correct-with-weights-residuals) \.result)(?= ≡)', r'\1 wideMoments (\2)'),
     ],
 }
+# comments that speak of what is left out: crate/file -> [(f64's, f32's)]
+SAID = {
+    'correction/lib.rt': [
+        (' by weighted averages through the kinds or, in `flat`, by flat ones without kinds; and the steps that both share.', ' by weighted averages through the kinds.'),
+        ("The steps that both share (the Rust's `compute_kalman_gain` and `apply_correction`), from z mean", "The steps (the Rust's `compute_kalman_gain` and `apply_correction`) from z mean"),
+    ],
+    'filter/closes.rt': [('and the two ways to close a correction:', 'and close correction:')],
+    'filter/new.rt': [('Each part is made by itself, and several tracks may be put on one sheet.', 'Each part is made by itself.')],
+}
 # where the words that a made proof takes in stand
 HOMES = {w: ('angles', 'proofs.Places') for w in ('kind-at', 'kinds-set', 'kinds-long')}
 # the numbers of the format, where code and proofs work from the bits
@@ -162,6 +171,9 @@ def common(text, crate):
 
 
 def source(crate, name, text):
+    for a, b in SAID.get(f'{crate}/{name}', []):
+        assert a in text, (crate, name, a)
+        text = text.replace(a, b)
     for s in LEFT.get(crate, []):
         module, item = s.split('::')
         if name == module + '.rt':

@@ -1,4 +1,4 @@
-// The correction: x and P from observed points and a measurement, by weighted averages through the kinds or, in `flat`, by flat ones without kinds; and the steps that both share. At f32: made from crates/correction by narrow.py.
+// The correction: x and P from observed points and a measurement, by weighted averages through the kinds. At f32: made from crates/correction by narrow.py.
 ghost use mathlib.Core.Path.{_≡_};
 ghost use Prim.Native.Nat.{_≤_};
 ghost use lib.Ieee.{binary32};
@@ -75,7 +75,7 @@ fn widened(kinds: [Kind; 4]) -> [Kind; 8]
     ]
 }
 
-// The steps that both share (the Rust's `compute_kalman_gain` and `apply_correction`), from z mean, S, x mean and the cross covariance C, as a close has made them, on: the factor of S, its inverse V, the gain K = C·Vᵀ, y, x and P. Each listed result is checked in running order, those four first.
+// The steps (the Rust's `compute_kalman_gain` and `apply_correction`) from z mean, S, x mean and the cross covariance C, as a close has made them, on: the factor of S, its inverse V, the gain K = C·Vᵀ, y, x and P. Each listed result is checked in running order, those four first.
 fn apply_correction(
     n: usize,
     m: usize,

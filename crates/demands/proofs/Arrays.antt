@@ -73,7 +73,7 @@ in-use-filled {k} {w} {t} u = record {
 pub filled-front : (k m : ℕ) (s : List Float) → k ≤ length s → k ≤ m → allFinite (take k s) ≡ true → Filled k m (front k s (zeros m))
 unfolding front
 filled-front k m s h g a = record {
-  long = length-front s (zeros m) k h (omega (arith, length-zeros m)) ∙ length-zeros m;
+  long = length-front s _ (zeros m) k refl h (omega (arith, length-zeros m)) ∙ length-zeros m;
   bounded = ap allFinite (take-at (take k s) (drop k (zeros m)) k (length-take-le k s h)) ∙ a;
   unused = drop-at (take k s) (drop k (zeros m)) k (length-take-le k s h) ∙ drop-zeros k m;
 }

@@ -1,6 +1,6 @@
 -- Laws of the fronts of lists (specs/Fronts.antt): none, one more number, the length; and a list of four. Assumes nothing.
 use Prim.Native.Nat.{ℕ, suc, _+_, _<_, _≤_}
-use mathlib.Core.Path.{_≡_, refl, sym, ap}
+use mathlib.Core.Path.{_≡_, refl, sym, ap, _∙_}
 use mathlib.Core.List.{List, [], _∷_, _++_, append-assoc}
 use native.Mathlib.Numerals.{add-one}
 use native.Mathlib.Omega.{arith}
@@ -19,9 +19,9 @@ front-more s d i z h k =
     let t : i ≤ length s = omega arith in
     rw (add-one, drop-cons d i z k, set-at (take i s) (getD d i z) (drop (suc i) d) (getD s i z) i (length-take-le i s t), take-suc s i z h, append-assoc)
 
-pub length-front : (s d : List Float) (i : ℕ) → i ≤ length s → i ≤ length d → length (front i s d) ≡ length d
+pub length-front : (s o d : List Float) (i : ℕ) → o ≡ front i s d → i ≤ length s → i ≤ length d → length o ≡ length d
 unfolding front
-length-front s d i h k = simp (length-append, length-take, length-drop) (omega arith)
+length-front s o d i e h k = let l : length (front i s d) ≡ length d = simp (length-append, length-take, length-drop) (omega arith) in ap length e ∙ l
 
 -- the first k of s put over d, said by what is put there
 pub front-over : (k : ℕ) (s d : List Float) → k ≤ length s → front k s d ≡ over (take k s) d

@@ -18,13 +18,10 @@ Inv-loop s k d₀ i₀ d i = (i ≤ k) × (d ≡ front i s d₀)
 abbrev μ-loop : tie.MeasureT-loop
 μ-loop s k d₀ i₀ d i = k - i
 
-length-of : (s o d : List Float) (i : ℕ) → o ≡ front i s d → i ≤ length s → i ≤ length d → length o ≡ length d
-length-of s o d i e h k = ap length e ∙ length-front s d i h k
-
 length-so-far : (c : tie.After-shared-slice-known Inv-loop μ-loop) → length (c .before .before .loop .d) ≡ length (now (c .before .before .before .args .d))
 length-so-far c =
     let b = c .before .before in
-    length-of (now (b .before .args .s)) (b .loop .d) (now (b .before .args .d)) (b .loop .i) (b .loop .inv .1) (omega arith) (omega arith)
+    length-front (now (b .before .args .s)) (b .loop .d) (now (b .before .args .d)) (b .loop .i) (b .loop .inv .1) (omega arith) (omega arith)
 
 loop-holds : tie.Need-loop-holds Inv-loop μ-loop
 loop-holds c = (omega arith, sym (front-none _ _))
@@ -40,7 +37,7 @@ loop-again c =
     (omega arith, ap (λ (o : List Float). set o (b .loop .i) (getD (now (b .before .args .s)) (b .loop .i) nan)) (b .loop .inv .1) ∙ front-more _ _ (b .loop .i) nan l m)
 
 same-length : tie.Need-same-length Inv-loop μ-loop
-same-length c = length-of (now (c .before .before .args .s)) (c .before .loop .d) (now (c .before .before .args .d)) (c .before .loop .i) (c .before .loop .inv .1) (omega arith) (omega arith)
+same-length c = length-front (now (c .before .before .args .s)) (c .before .loop .d) (now (c .before .before .args .d)) (c .before .loop .i) (c .before .loop .inv .1) (omega arith) (omega arith)
 
 returns : tie.Need-returns Inv-loop μ-loop
 returns c =
