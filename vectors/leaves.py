@@ -39,18 +39,19 @@ def scales(k):
     return range(-1074, 1024 - k.bit_length(), 2)
 
 
-def near_halves(c):
-    """Floats x, as whole numbers, with x = k * (k + 1) - c for a k of 53 digits: their roots lie next to k + 1/2, half-way between two floats.
+def near_halves(c, fraction=52):
+    """Floats x, as whole numbers, with x = k * (k + 1) - c for a k of fraction + 1 digits: their roots lie next to k + 1/2, half-way between two floats.
     c is even; k is found digit by digit from below, since k * (k + 1) - c has an odd slope."""
+    low, high = 2 ** fraction, 2 ** (fraction + 1)
     for start in (0, 1):
-        for digits in (52, 53):
+        for digits in (fraction, fraction + 1):
             k = start
             for i in range(1, digits + 1):
                 if (k * (k + 1) - c) % 2 ** i:
                     k += 2 ** (i - 1)
-            for top in (k + 2 ** 52, k + 2 ** 53):
+            for top in (k + low, k + high):
                 x = top * (top + 1) - c
-                if 2 ** 52 <= top < 2 ** 53 and x.bit_length() == 53 + digits and x % 2 ** digits == 0:
+                if low <= top < high and x.bit_length() == fraction + 1 + digits and x % 2 ** digits == 0:
                     yield x
 
 

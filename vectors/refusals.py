@@ -1,20 +1,27 @@
 """Every refusal of every call that can give it, each held against the next one in the order 3, 1, 2, 4, 51 to 56, 10, 6, then 7, 8, 9 as met:
-of the solo filter, of what a pair has beyond it, then once more on a side of a pair, which answers as the solo filter does.
+of the solo filter, of what a pair has beyond it, then once more on a side of a pair, which answers as the solo filter does, and on the f32 filter,
+which does so too with numbers of its width and has no flat close.
 Each number is followed by its place: of the first bad number in its slice for 51 to 56, the row of the pivot for 7 and 8, else 0.
 The answers stand here as they were written by hand from documents 01 and 02; run, it writes them as a script of calls (docs/SCRIPT.md) and its answers:
     refusals.py SCRIPT ANSWERS
-A number with a point, nan, inf or a power 2^K becomes the bits of an f64, [..] a list with its length in front, and bK what place K of a lent buffer holds before a call."""
+A number with a point, nan, inf, a power 2^K or a name of SIZES becomes the bits of a float, [..] a list with its length in front, and bK what place K of a lent buffer holds before a call."""
 import sys
 
 sys.dont_write_bytecode = True
 from records import word
 
 EMPTY = '0 0 n 0 x P Q par 0.0 0.0 0.0 kinds w 0.0 0.0 pts stale 1 open - dw 0.0 0.0 dpts'
-BIG = '1.5e308'
-HUGE = '1.0e200'
-MOST = '1.7976931348623157e308'
 
-CALLS = [
+# Numbers near the edges of a width, which goes by its hex digits: twice BIG isn't finite, nor BIG + LARGE, the square of HUGE or 1 over SMALL. MOST is the largest.
+SIZES = {
+    16: {'BIG': '1.5e308', 'LARGE': '1.0e308', 'HUGE': '1.0e200', 'SMALL': '1.0e-310', 'MOST': '1.7976931348623157e308'},
+    8: {'BIG': '3.0e38', 'LARGE': '1.0e38', 'HUGE': '1.0e25', 'SMALL': '1.0e-39'},
+}
+
+# What place 0 of a lent buffer holds before a call.
+LENT = {16: 0x4330000000000000, 8: 0x4B000000}
+
+FIRST = [
     '# before the first new: the empty filter. Nothing is open, so closes and abandon are 3; every other call is 1, whatever its slices and numbers',
     ('setx []', '1 0'),
     ('setp [nan]', '1 0'),
@@ -52,7 +59,7 @@ CALLS = [
     '# C4: N = 0; N below 0; N infinite; N = 0 by alpha',
     ('new 1 [2.0] [4.0] [1.0] 1.0 0.0 -1.0', '6 0'),
     ('new 1 [2.0] [4.0] [1.0] 1.0 0.0 -2.0', '6 0'),
-    ('new 1 [2.0] [4.0] [1.0] 1.0e200 0.0 0.0', '6 0'),
+    ('new 1 [2.0] [4.0] [1.0] HUGE 0.0 0.0', '6 0'),
     ('new 1 [2.0] [4.0] [1.0] 0.0 0.0 0.0', '6 0'),
     ('dump', EMPTY),
     '# numbers past what is needed are not judged',
@@ -81,7 +88,7 @@ CALLS = [
     ('setkind 0 t -1.0', '6 0'),
     ('setkind 0 t 0.0', '6 0'),
     ('setkind 0 t -0.0', '6 0'),
-    ('setkind 0 t 1.7e308', '6 0'),
+    ('setkind 0 t BIG', '6 0'),
     ('dump', '0 0 n 1 x 2.0 P 4.0 Q 1.0 par 1.0 0.0 0.0 kinds p w 0.0 0.0 pts 0.0 0.0 0.0 stale 1 open - dw 0.0 0.0 dpts 0.0 0.0 0.0'),
     '# readings: 2; current points: 2 before 4, then 4 while stale. A refusal writes nothing',
     ('readx 0', '2 0 0'),
@@ -95,7 +102,7 @@ CALLS = [
     ('readq 3', '0 0 3 1.0 b1 b2'),
     ('readpar', '0 0 1.0 0.0 0.0'),
     ('readstale', '0 0 1'),
-    '# opens: 2 before 7; 7; 9 in the points (x + s*L beyond the largest double); 7 before 9',
+    '# opens: 2 before 7; 7; 9 in the points (x + s*L beyond the largest number); 7 before 9',
     ('setp [-4.0]', '0 0'),
     ('openp 2', '2 0 2 b0 b1'),
     ('openc 2', '2 0 2 b0 b1'),
@@ -103,10 +110,10 @@ CALLS = [
     ('openc 3', '7 0 3 b0 b1 b2'),
     ('setp [0.0]', '0 0'),
     ('openp 3', '7 0 3 b0 b1 b2'),
-    ('setx [' + BIG + ']', '0 0'),
+    ('setx [BIG]', '0 0'),
     ('openp 3', '7 0 3 b0 b1 b2'),
-    ('setp [1.0e308]', '0 0'),
-    ('setpar 1.0 0.0 1.0e308', '0 0'),
+    ('setp [LARGE]', '0 0'),
+    ('setpar 1.0 0.0 LARGE', '0 0'),
     ('openp 3', '9 0 3 b0 b1 b2'),
     ('openc 4', '9 0 4 b0 b1 b2 b3'),
     ('setpar 1.0 0.0 0.0', '0 0'),
@@ -130,8 +137,8 @@ CALLS = [
     '# its close: 2 before 54, 54, 9 at the mean, 9 at P; the call stays open and every bit as it was',
     ('closep [nan 4.0]', '2 0'),
     ('closep [2.0 nan 0.0]', '54 1'),
-    ('closep [' + BIG + ' -' + BIG + ' 0.0]', '9 0'),
-    ('closep [0.0 ' + HUGE + ' -' + HUGE + ']', '9 0'),
+    ('closep [BIG -BIG 0.0]', '9 0'),
+    ('closep [0.0 HUGE -HUGE]', '9 0'),
     ('dump', '0 0 n 1 x 2.0 P 4.0 Q 1.0 par 1.0 0.0 0.0 kinds p w 0.0 0.0 pts 0.0 0.0 0.0 stale 1 open p dw 0.0 0.5 dpts 2.0 4.0 0.0'),
     ('closep [2.0 4.0 0.0 nan]', '0 0 x 2.0 P 5.0'),
     ('dump', '0 0 n 1 x 2.0 P 5.0 Q 1.0 par 1.0 0.0 0.0 kinds p w 0.0 0.5 pts 2.0 4.0 0.0 stale 0 open - dw 0.0 0.0 dpts 0.0 0.0 0.0'),
@@ -193,14 +200,14 @@ CALLS = [
     ('closec 2 [3.0 3.0] [12.0 0.0 0.0 12.0] t 0.0 t inf p p [2.0 2.0 4.0 4.0 0.0 0.0]', '56 1'),
     ('closec 1 [3.0] [12.0] t 0.0 p p p [2.0 4.0 inf]', '54 2'),
     ('closec 1 [3.0] [-12.0] t 0.0 p p p [2.0 4.0 0.0]', '6 0'),
-    ('closec 1 [3.0] [-12.0] t 1.7e308 p p p [2.0 4.0 0.0]', '6 0'),
+    ('closec 1 [3.0] [-12.0] t BIG p p p [2.0 4.0 0.0]', '6 0'),
     ('closec 1 [3.0] [-12.0] p t nan t 0.0 t inf [2.0 4.0 0.0]', '8 0'),
     ('closec 1 [3.0] [0.0] p p p p [2.0 2.0 2.0]', '8 0'),
-    ('closec 1 [3.0] [-12.0] p p p p [' + BIG + ' -' + BIG + ' 0.0]', '9 0'),
+    ('closec 1 [3.0] [-12.0] p p p p [BIG -BIG 0.0]', '9 0'),
     '# 9 at S, at the inverse, at y; the x mean, the cross covariance, the gain, x and P stand among the long recorded calls',
-    ('closec 1 [3.0] [12.0] p p p p [0.0 ' + HUGE + ' -' + HUGE + ']', '9 0'),
-    ('closec 1 [3.0] [1.0e-310] p p p p [2.0 2.0 2.0]', '9 0'),
-    ('closec 1 [' + BIG + '] [12.0] p p p p [-' + BIG + ' -' + BIG + ' -' + BIG + ']', '9 0'),
+    ('closec 1 [3.0] [12.0] p p p p [0.0 HUGE -HUGE]', '9 0'),
+    ('closec 1 [3.0] [SMALL] p p p p [2.0 2.0 2.0]', '9 0'),
+    ('closec 1 [BIG] [12.0] p p p p [-BIG -BIG -BIG]', '9 0'),
     '# its flat close: 1 before 2, 2 before 53, 54 and 55, these before 8 and 9; never 6, for it takes no kinds and the parameters have passed',
     ('closef 0 [] [] []', '1 0'),
     ('closef 5 [] [] []', '1 0'),
@@ -212,18 +219,18 @@ CALLS = [
     ('closef 2 [6.0 9.0] [10.0 0.0 0.0] [2.0 nan 5.0 2.0 -1.0 2.0]', '2 0'),
     ('closef 2 [6.0 9.0] [10.0 0.0 nan 1.0] [2.0 2.0 5.0 2.0 -1.0]', '2 0'),
     ('closef 1 [nan] [-10.0] [2.0 5.0 -1.0]', '55 0'),
-    ('closef 1 [6.0] [-inf] [' + BIG + ' ' + BIG + ' 0.0]', '53 0'),
+    ('closef 1 [6.0] [-inf] [BIG BIG 0.0]', '53 0'),
     ('closef 1 [6.0] [-10.0] [2.0 5.0 inf]', '54 2'),
     ('closef 2 [6.0 nan] [-10.0 0.0 0.0 1.0] [2.0 2.0 5.0 2.0 -1.0 2.0]', '55 1'),
     '# 8: S = 6 - 10, S = 0; before 9 at y. 9 before 8: the sum for z mean, S',
     ('closef 1 [6.0] [-10.0] [2.0 5.0 -1.0]', '8 0'),
     ('closef 1 [6.0] [0.0] [2.0 2.0 2.0]', '8 0'),
-    ('closef 1 [' + MOST + '] [-10.0] [-2^1000 -2^1000 -2^1000]', '8 0'),
-    ('closef 1 [6.0] [-10.0] [' + BIG + ' ' + BIG + ' 0.0]', '9 0'),
-    ('closef 1 [6.0] [-10.0] [0.0 ' + HUGE + ' -' + HUGE + ']', '9 0'),
+    ('closef 1 [MOST] [-10.0] [-2^1000 -2^1000 -2^1000]', '8 0'),
+    ('closef 1 [6.0] [-10.0] [BIG BIG 0.0]', '9 0'),
+    ('closef 1 [6.0] [-10.0] [0.0 HUGE -HUGE]', '9 0'),
     '# 9 at the inverse, at y',
-    ('closef 1 [6.0] [1.0e-310] [2.0 2.0 2.0]', '9 0'),
-    ('closef 1 [' + MOST + '] [10.0] [-2^1000 -2^1000 -2^1000]', '9 0'),
+    ('closef 1 [6.0] [SMALL] [2.0 2.0 2.0]', '9 0'),
+    ('closef 1 [MOST] [10.0] [-2^1000 -2^1000 -2^1000]', '9 0'),
     ('dump', '0 0 n 1 x 2.0 P -4.0 Q 1.0 par 1.0 0.0 0.0 kinds p w 0.0 0.5 pts 2.0 4.0 0.0 stale 0 open c dw 0.0 0.5 dpts 2.0 4.0 0.0'),
     '# abandon: again what it was before the open, and the scratch is +0; then 3',
     ('abandon', '0 0'),
@@ -249,6 +256,10 @@ CALLS = [
     ('openc 3', '0 0 3 2.0 6.0 -2.0'),
     ('closec 1 [7.0] [7.0] p p p p [2.0 10.0 2.0]', '0 0 x 3.0 P 3.0'),
     ('dump', '0 0 n 1 x 3.0 P 3.0 Q 0.0 par 1.0 2.0 3.0 kinds p w 2.75 0.125 pts 2.0 6.0 -2.0 stale 1 open - dw 0.0 0.0 dpts 0.0 0.0 0.0'),
+]
+
+# Request A1 where it changes the filter or needs one with a turn; apart, since the f32 filter has no flat close.
+FLAT = [
     '# the flat close, after a refused weighted one: z mean = 6/3 = 2, S = (0 + 9 + 9)/3 + 10 = 16, C = (0*0 + 2*3 + (-2)*(-3))/3 = 4, K = 4/16, y = 4,',
     '# x = 2 + 1, P = 5 - 4*0.25. What was opened is installed, stale, scratch +0; numbers past what is needed are not judged; then nothing is open, and a draw is fresh',
     ('setx [2.0]', '0 0'),
@@ -272,19 +283,19 @@ CALLS = [
     ('closep [5.0 4.0 0.0]', '0 0 x 2.0 P 5.0'),
     ('openc 3', '0 0 3 5.0 4.0 0.0'),
     ('closef 2 [6.0 9.0] [10.0 0.0 0.0 1.0] [2.0 2.0 5.0 2.0 -1.0 2.0]', '0 0 x 3.0 P 4.0'),
-    '# 9 at x mean, before 8: three points of 1e308 are finite and their sum is not; the weighted close (weights 0, 0.5, 0.5) takes them: C = 0, so x and P stay',
+    '# 9 at x mean, before 8: three points of LARGE are finite and their sum is not; the weighted close (weights 0, 0.5, 0.5) takes them: C = 0, so x and P stay',
     ('openp 3', '0 0 3 3.0 5.0 1.0'),
-    ('closep [1.0e308 1.0e308 1.0e308]', '0 0 x 1.0e308 P 1.0'),
-    ('openc 3', '0 0 3 1.0e308 1.0e308 1.0e308'),
+    ('closep [LARGE LARGE LARGE]', '0 0 x LARGE P 1.0'),
+    ('openc 3', '0 0 3 LARGE LARGE LARGE'),
     ('closef 1 [6.0] [10.0] [2.0 5.0 -1.0]', '9 0'),
     ('closef 1 [6.0] [-10.0] [2.0 5.0 -1.0]', '9 0'),
-    ('closec 1 [6.0] [7.0] p p p p [2.0 5.0 -1.0]', '0 0 x 1.0e308 P 1.0'),
+    ('closec 1 [6.0] [7.0] p p p p [2.0 5.0 -1.0]', '0 0 x LARGE P 1.0'),
     '# 9 in the other steps of the flat close. Alpha 2^500 and P = 2^332 draw points 2^666 from x; the means of z and of x are 0 throughout. C, before 8 (S below 0):',
     ('setpar 2^500 0.0 0.0', '0 0'),
     ('setx [0.0]', '0 0'),
     ('setp [2^332]', '0 0'),
     ('openc 3', '0 0 3 0.0 2^666 -2^666'),
-    ('closef 1 [0.0] [-' + MOST + '] [0.0 2^500 -2^500]', '9 0'),
+    ('closef 1 [0.0] [-MOST] [0.0 2^500 -2^500]', '9 0'),
     '# the entry 2^600/2^-500 of the factor of S, before 8 in the next column; 8 in its own column before it',
     ('closef 2 [0.0 0.0] [2^-1000 0.0 2^600 -1.0] [0.0 0.0 0.0 0.0 0.0 0.0]', '9 0'),
     ('closef 2 [0.0 0.0] [-1.0 0.0 2^600 1.0] [0.0 0.0 0.0 0.0 0.0 0.0]', '8 0'),
@@ -293,13 +304,20 @@ CALLS = [
     ('closef 1 [2^400] [1.0] [0.0 1.0 -1.0]', '9 0'),
     ('closef 1 [0.0] [1.0] [0.0 1.0 -1.0]', '9 0'),
     ('abandon', '0 0'),
-    ('setx [2.0]', '0 0'),
+]
+
+TURN = [
     '# a turn: C12 through the calls. Propagated 179, -171, 169 about a half-turn of 180 has the mean 179, and P = 0.5*10*10 + 0.5*10*10 + Q',
+    ('setx [2.0]', '0 0'),
+    ('setq [1.0]', '0 0'),
     ('setpar 1.0 0.0 0.0', '0 0'),
     ('setkind 0 t 180.0', '0 0'),
     ('setp [4.0]', '0 0'),
     ('openp 3', '0 0 3 2.0 4.0 0.0'),
     ('closep [179.0 -171.0 169.0]', '0 0 x 179.0 P 101.0'),
+]
+
+FLAT_TURN = [
     '# a turn in the flat close: 1, 2, 53, 54 and 55 before 10, 10 before 8 and 9; nothing changes, and the call stays open',
     ('openc 3', '0 0 3 179.0 -171.0 169.0'),
     ('closef 5 [] [] []', '1 0'),
@@ -309,9 +327,12 @@ CALLS = [
     ('closef 1 [179.0] [12.0] [179.0 -171.0 nan]', '54 2'),
     ('closef 1 [179.0] [12.0] [179.0 -171.0 169.0]', '10 0'),
     ('closef 1 [179.0] [-12.0] [2.0 2.0 2.0]', '10 0'),
-    ('closef 1 [179.0] [12.0] [' + BIG + ' ' + BIG + ' 0.0]', '10 0'),
+    ('closef 1 [179.0] [12.0] [BIG BIG 0.0]', '10 0'),
     ('dump', '0 0 n 1 x 179.0 P 101.0 Q 1.0 par 1.0 0.0 0.0 kinds t 180.0 w 0.0 0.5 pts 179.0 -171.0 169.0 stale 0 open c dw 0.0 0.5 dpts 179.0 -171.0 169.0'),
     ('abandon', '0 0'),
+]
+
+VALUES = [
     ('setkind 0 p', '0 0'),
     '# point k of a list: 1 before 2; the list is not judged',
     ('point 0 0 []', '1 0 0 0'),
@@ -326,7 +347,7 @@ CALLS = [
     ('wrap 1.0 inf', '56 0 0.0'),
     ('wrap -inf nan', '56 0 0.0'),
     ('wrap 1.0 0.0', '6 0 0.0'),
-    ('wrap 1.0 1.7e308', '6 0 0.0'),
+    ('wrap 1.0 BIG', '6 0 0.0'),
     ('wrap -360.0 180.0', '0 0 -0.0'),
     ('root -1.0', '56 0'),
     ('root inf', '56 0'),
@@ -339,6 +360,9 @@ CALLS = [
     ('closef 1 [6.0] [10.0]', 'bad'),
     ('closef 1 [6.0] [10.0] p p p p [2.0 5.0 -1.0]', 'bad'),
     ('dump', '0 0 n 1 x 179.0 P 101.0 Q 1.0 par 1.0 0.0 0.0 kinds p w 0.0 0.5 pts 179.0 -171.0 169.0 stale 1 open - dw 0.0 0.0 dpts 0.0 0.0 0.0'),
+]
+
+FLAT_OF_TWO = [
     '# two states: one turn among them is enough for 10. Five points, so sums are divided by 5: S = (25 + 25)/5 + 6 = 16, C = (2*5 + (-2)*(-5))/5 = 4 and 0, K = 0.25 and 0',
     ('new 2 [0.0 0.0] [4.0 0.0 0.0 4.0] [1.0 0.0 0.0 1.0] 1.0 0.0 -1.0', '0 0'),
     ('setkind 1 t 180.0', '0 0'),
@@ -349,6 +373,9 @@ CALLS = [
     ('openc 10', '0 0 10 0.0 0.0 2.0 0.0 0.0 2.0 -2.0 0.0 0.0 -2.0'),
     ('closef 1 [4.0] [6.0] [0.0 5.0 0.0 -5.0]', '2 0'),
     ('closef 1 [4.0] [6.0] [0.0 5.0 0.0 -5.0 0.0]', '0 0 x 1.0 0.0 P 3.0 0.0 0.0 4.0'),
+]
+
+PLACES = [
     '# where the bad number is (A5). New searches x, P, Q, then alpha, beta, kappa: the first bad number of the first bad slice, and before 6 (kappa -2)',
     ('new 2 [nan 2.0] [4.0 0.0 0.0 4.0] [1.0 0.0 0.0 1.0] 1.0 0.0 -1.0', '51 0'),
     ('new 2 [2.0 inf] [nan 0.0 0.0 4.0] [1.0 0.0 0.0 1.0] 1.0 0.0 -1.0', '51 1'),
@@ -380,13 +407,13 @@ CALLS = [
     ('setpar 1.0 inf nan', '56 1'),
     ('setpar -inf 0.0 nan', '56 0'),
     ('setkind 1 t nan', '56 0'),
-    '# the row of P\'s pivot: the second; the first of two; the second, which is not finite (its entry 2^599 squared)',
+    '# the row of P\'s pivot: the second; the first of two; the second, which is not finite (its entry, half of HUGE, squared)',
     ('setp [4.0 0.0 0.0 -4.0]', '0 0'),
     ('openp 10', '7 1 10 b0 b1 b2 b3 b4 b5 b6 b7 b8 b9'),
     ('openc 10', '7 1 10 b0 b1 b2 b3 b4 b5 b6 b7 b8 b9'),
     ('setp [0.0 0.0 0.0 -4.0]', '0 0'),
     ('openp 10', '7 0 10 b0 b1 b2 b3 b4 b5 b6 b7 b8 b9'),
-    ('setp [4.0 0.0 2^600 4.0]', '0 0'),
+    ('setp [4.0 0.0 HUGE 4.0]', '0 0'),
     ('openc 10', '7 1 10 b0 b1 b2 b3 b4 b5 b6 b7 b8 b9'),
     ('setp [4.0 0.0 0.0 4.0]', '0 0'),
     '# propagated points: the first place, the last, the first of two',
@@ -416,7 +443,7 @@ CALLS = [
     '# the row of S\'s pivot, S being R where zeros are observed: the second, the first of two, the second, which is not finite',
     ('closec 2 [0.0 0.0] [1.0 0.0 0.0 0.0] p p p p [0.0 0.0 0.0 0.0 0.0 0.0 0.0 0.0 0.0 0.0]', '8 1'),
     ('closec 2 [0.0 0.0] [-1.0 0.0 0.0 -1.0] p p p p [0.0 0.0 0.0 0.0 0.0 0.0 0.0 0.0 0.0 0.0]', '8 0'),
-    ('closec 2 [0.0 0.0] [1.0 0.0 2^600 1.0] p p p p [0.0 0.0 0.0 0.0 0.0 0.0 0.0 0.0 0.0 0.0]', '8 1'),
+    ('closec 2 [0.0 0.0] [1.0 0.0 HUGE 1.0] p p p p [0.0 0.0 0.0 0.0 0.0 0.0 0.0 0.0 0.0 0.0]', '8 1'),
     '# the flat close: the same order, without half-turns; the same rows',
     ('closef 2 [nan nan] [1.0 inf 0.0 nan] [nan 0.0 0.0 0.0 0.0 0.0 0.0 0.0 0.0 nan]', '53 1'),
     ('closef 2 [0.0 0.0] [1.0 0.0 0.0 nan] [nan 0.0 0.0 0.0 0.0 0.0 0.0 0.0 0.0 0.0]', '53 3'),
@@ -435,6 +462,8 @@ CALLS = [
     ('openc 3', '0 0 3 2.0 4.0 0.0'),
     ('closec 1 [8.0] [48.0] p p p p [2.0 6.0 6.0]', '0 0 x 1.75 P 3.0'),
 ]
+
+CALLS = FIRST + FLAT + TURN + FLAT_TURN + VALUES + FLAT_OF_TWO + PLACES
 
 # Request A4. Side 1 mostly has x=2, P=4 and draws 2, 4, 0; side 2 has x=6, P=1 and draws 6, 7, 5.
 PAIRS = [
@@ -464,7 +493,7 @@ PAIRS = [
     ('newpair 1 [2.0] [4.0] [6.0] [1.0] [1.0] 0.0 nan 0.0', '56 1'),
     ('newpair 1 [2.0] [4.0] [6.0] [1.0] [1.0] 1.0 0.0 nan', '56 2'),
     ('newpair 1 [2.0] [4.0] [6.0] [1.0] [1.0] 1.0 0.0 -1.0', '6 0'),
-    ('newpair 1 [2.0] [4.0] [6.0] [1.0] [1.0] 1.0e200 0.0 0.0', '6 0'),
+    ('newpair 1 [2.0] [4.0] [6.0] [1.0] [1.0] HUGE 0.0 0.0', '6 0'),
     '# where the bad number is (A5): x and P of the first, x and P of the second, Q, the parameters; 51 and 52 don\'t say whose',
     ('newpair 2 [2.0 nan] [nan 0.0 0.0 4.0] [nan 6.0] [1.0 0.0 0.0 1.0] [1.0 0.0 0.0 1.0] 1.0 0.0 0.0', '51 1'),
     ('newpair 2 [2.0 nan] [4.0 0.0 0.0 4.0] [nan 6.0] [1.0 0.0 0.0 1.0] [1.0 0.0 0.0 1.0] 1.0 0.0 0.0', '51 1'),
@@ -619,46 +648,89 @@ def on_side_two(calls):
             yield '@2 ' + line, answer
 
 
+# How the solo filter is left by PAIRS, and side 1 by SIDE.
+SOLO_AFTER = '0 0 n 1 x 3.0 P 4.0 Q 8.0 par 1.0 2.0 1.0 kinds t 180.0 w 0.0 0.0 pts 0.0 0.0 0.0 stale 1 open - dw 0.0 0.0 dpts 0.0 0.0 0.0'
+SIDE_AFTER = '0 0 n 1 x 5.0 P 1.0 Q 1.0 par 1.0 1.0 0.0 kinds t 2.0 w 0.0 0.0 pts 0.0 0.0 0.0 stale 1 open - dw 0.0 0.0 dpts 0.0 0.0 0.0'
+
 SIDE = [
     '# all calls of the solo filter above once more on side 2 of a pair whose side 1 has nothing open, from the empty pair on; the answers are the same',
     ('newpair 0 [] [] [] [] [] 1.0 0.0 0.0', '1 0'),
     *on_side_two(CALLS),
     '# of all this the sheet and its marks have come to side 1, and nothing to the solo filter',
-    ('@1 dump', '0 0 n 1 x 5.0 P 1.0 Q 1.0 par 1.0 1.0 0.0 kinds t 2.0 w 0.0 0.0 pts 0.0 0.0 0.0 stale 1 open - dw 0.0 0.0 dpts 0.0 0.0 0.0'),
-    ('dump', '0 0 n 1 x 3.0 P 4.0 Q 8.0 par 1.0 2.0 1.0 kinds t 180.0 w 0.0 0.0 pts 0.0 0.0 0.0 stale 1 open - dw 0.0 0.0 dpts 0.0 0.0 0.0'),
+    ('@1 dump', SIDE_AFTER),
+    ('dump', SOLO_AFTER),
 ]
 
 
-def token(t):
+def on_narrow(calls):
+    """The calls as calls on the f32 filter, which has no flat close. Comments are left out."""
+    for line, answer in (call for call in calls if not isinstance(call, str)):
+        if not line.startswith('closef'):
+            yield '@w ' + line, answer
+
+
+# Request A6; numbers are f32s in these lines and their answers.
+NARROW = [
+    '# all calls of the solo filter above but the flat closes once more on the f32 filter, from the empty one on; the answers are the same, at its width',
+    *on_narrow(FIRST + TURN + VALUES + PLACES),
+    '# no call: what the f32 filter has not got, a call of nobody, two at once, and numbers that are not 8 digits long; nothing changes',
+    ('@w closef 1 [6.0] [10.0] [2.0 5.0 -1.0]', 'bad'),
+    ('@w newpair 1 [2.0] [4.0] [6.0] [1.0] [1.0] 1.0 0.0 0.0', 'bad'),
+    ('@w', 'bad'),
+    ('@wdump', 'bad'),
+    ('@w @w dump', 'bad'),
+    ('@w @1 dump', 'bad'),
+    ('@2 @w dump', 'bad'),
+    ('@w root 4010000000000000', 'bad'),
+    ('@w root 4080000', 'bad'),
+    ('@w root 408000000', 'bad'),
+    ('@w new 0 [] [] [] 0000000000000000 0000000000000000 0000000000000000', 'bad'),
+    ('@w setkind 0 t 4066800000000000', 'bad'),
+    ('@w dump', '0 0 n 1 x 1.75 P 3.0 Q 1.0 par 1.0 1.0 0.0 kinds t 2.0 w 1.0 0.5 pts 2.0 4.0 0.0 stale 1 open - dw 0.0 0.0 dpts 0.0 0.0 0.0'),
+]
+
+# Of all this nothing has come to the solo filter or to the pair, where numbers have 16 digits.
+OTHERS = [
+    '# neither the solo filter nor the pair has noticed; 8 digits are no number there',
+    ('root 40800000', 'bad'),
+    ('@1 setx 1 40800000', 'bad'),
+    ('dump', SOLO_AFTER),
+    ('@1 dump', SIDE_AFTER),
+]
+
+
+def token(t, digits):
     if t[0] == 'b' and t[1:].isdigit():
-        return '%016x' % (0x4330000000000000 + int(t[1:]))
-    if '2^' in t:
-        sign, power = t.split('2^')
-        return word(float(sign + '1') * 2.0 ** int(power))
-    if t in ('nan', 'inf', '-inf') or '.' in t:
-        return word(float(t))
-    return t
+        return f'{LENT[digits] + int(t[1:]):0{digits}x}'
+    sign, t = ('-', t[1:]) if t[0] == '-' else ('', t)
+    t = SIZES[digits].get(t, t)
+    if t.startswith('2^'):
+        return word(float(sign + '1') * 2.0 ** int(t[2:]), digits)
+    if t in ('nan', 'inf') or '.' in t:
+        return word(float(sign + t), digits)
+    return sign + t
 
 
-def written(line):
+def written(line, digits):
     """The line with its lists counted and its numbers as bits."""
     out, rest = [], line.replace('[', ' [ ').replace(']', ' ] ').split()
     while rest:
         t = rest.pop(0)
         if t == '[':
             end = rest.index(']')
-            out += [str(end)] + [token(u) for u in rest[:end]]
+            out += [str(end)] + [token(u, digits) for u in rest[:end]]
             rest = rest[end + 1:]
         else:
-            out.append(token(t))
+            out.append(token(t, digits))
     return ' '.join(out)
 
 
 if __name__ == '__main__':
     with open(sys.argv[1], 'w') as script, open(sys.argv[2], 'w') as answers:
-        for call in CALLS + PAIRS + SIDE:
-            if isinstance(call, str):
-                script.write(call + '\n')
-            else:
-                script.write(written(call[0]) + '\n')
-                answers.write(written(call[1]) + '\n')
+        for calls, digits in ((CALLS + PAIRS + SIDE, 16), (NARROW, 8), (OTHERS, 16)):
+            for call in calls:
+                if isinstance(call, str):
+                    script.write(call + '\n')
+                else:
+                    script.write(written(call[0], digits) + '\n')
+                    answers.write(written(call[1], digits) + '\n')

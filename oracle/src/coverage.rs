@@ -1,16 +1,16 @@
-//! What scripts should meet. On the solo filter: every number that a call can give, every stage and step that can stop it, what its place
-//! can be told among (of New of a pair too), every setting on stale points and on points in use, every size. On a pair: every number, every change
-//! of its sheet through either side with whatever points and open calls, and every other call on a side with whatever its partner has open.
+//! What scripts should meet. On the solo filter and on the f32 filter: every number that a call can give, every stage and step that can stop it,
+//! what its place can be told among (of New of a pair too), every setting on stale points and on points in use, every size. On a pair: every number,
+//! every change of its sheet through either side with whatever points and open calls, and every other call on a side with whatever its partner has open.
 
 use crate::filter::Open;
 use crate::pair::Side;
 use crate::places::{self, AFTER_PARAM, AFTER_PLAIN, SECOND, SEVERAL, SPOTS};
 use crate::script::{
-    before, named, on_points, through, with_partner, Table, BOTH_OPEN, IN_USE, OWN_OPEN, PARTNER_OPEN, SETTERS, SHEET, STALE,
+    before, named, on_points, through, with_partner, On, Table, BOTH_OPEN, IN_USE, OWN_OPEN, PARTNER_OPEN, SETTERS, SHEET, STALE,
 };
 
-/// The numbers that the calls on no filter, and those that make one, can give in a script.
-const ALONE: [(&str, &[u8]); 5] = [
+/// The calls that make a filter or a pair and those on values, with the numbers that they can give in a script.
+const APART: [(&str, &[u8]); 5] = [
     ("new", &[0, 1, 2, 51, 52, 53, 56, 6]),
     ("newpair", &[0, 1, 2, 51, 52, 53, 56, 6]),
     ("point", &[0, 1, 2]),
@@ -18,7 +18,7 @@ const ALONE: [(&str, &[u8]); 5] = [
     ("root", &[0, 56]),
 ];
 
-/// Those of the calls on a filter, the solo one or a side. (Opening never gives 6; on the empty filter abandon and closes give 3.)
+/// The calls on a filter, be it a side. (Opening never gives 6; on the empty filter abandon and closes give 3.)
 const ON_FILTER: [(&str, &[u8]); 18] = [
     ("setx", &[0, 1, 2, 3, 51]),
     ("setp", &[0, 1, 2, 3, 52]),
@@ -40,10 +40,29 @@ const ON_FILTER: [(&str, &[u8]); 18] = [
     ("dump", &[0]),
 ];
 
+/// On whom calls are made; one side stands for both.
+pub const EVERYONE: [On; 3] = [On::Solo, On::Narrow, On::Side(Side::One)];
+
+/// The filters that are no side. What is to be met of their calls is the same.
+pub const ALONE: [On; 2] = [On::Solo, On::Narrow];
+
+/// Whether there is such a call: the f32 filter has no flat close (request A6), and of the calls that are on no filter a pair has its New alone.
+pub fn has(on: On, call: &str) -> bool {
+    match on {
+        On::Solo => call != "newpair",
+        On::Narrow => !["newpair", "closef"].contains(&call),
+        On::Side(_) => call == "newpair" || APART.iter().all(|(apart, _)| *apart != call),
+    }
+}
+
 /// The numbers of every call, by its name in the table.
 pub fn numbers() -> impl Iterator<Item = (String, &'static [u8])> {
-    let on = |side| ON_FILTER.iter().map(move |(call, numbers)| (named(side, call), *numbers));
-    ALONE.iter().map(|(call, numbers)| (named(None, call), *numbers)).chain(on(None)).chain(on(Some(Side::One)))
+    EVERYONE.into_iter().flat_map(numbers_on)
+}
+
+fn numbers_on(on: On) -> impl Iterator<Item = (String, &'static [u8])> {
+    let calls = APART.iter().chain(&ON_FILTER).filter(move |(call, _)| has(on, call));
+    calls.map(move |(call, numbers)| (named(on, call), *numbers))
 }
 
 /// The stages and steps in which a call can stop, in running order.
@@ -72,7 +91,7 @@ const CORRECTION: [(u8, &str); 13] = [
 ];
 
 /// The slices that a call searches for bad numbers, by their numbers and in that order; but those of one number.
-pub const SEARCHED: [(&str, &[u8]); 9] = [
+const SEARCHED: [(&str, &[u8]); 9] = [
     ("new", &[51, 52, 53, 56]),
     ("newpair", &[51, 52, 51, 52, 53, 56]),
     ("setx", &[51]),
@@ -83,6 +102,11 @@ pub const SEARCHED: [(&str, &[u8]); 9] = [
     ("closec", &[53, 54, 55, 56]),
     ("closef", &[53, 54, 55]),
 ];
+
+/// The calls whose searches are to be shown, each with its slices; of a pair's New alone, since a side searches as a filter does.
+pub fn searching(on: On) -> impl Iterator<Item = (&'static str, &'static [u8])> {
+    SEARCHED.into_iter().filter(move |(call, _)| has(on, call) && (*call == "newpair" || ALONE.contains(&on)))
+}
 
 pub fn slices_of(call: &str) -> &'static [u8] {
     SEARCHED.iter().find(|(searching, _)| *searching == call).map_or(&[], |(_, numbers)| *numbers)
@@ -121,7 +145,8 @@ pub const CORRECTIONS: [(&str, &str); 2] = [("closec", "correction"), ("closef",
 
 /// How often a call gave such a number with such words beside it.
 fn sum(table: &Table, call: &str, fits: impl Fn(u8, &str) -> bool) -> u64 {
-    table.iter().filter(|((c, number, more), _)| c == call && fits(*number, more)).map(|(_, count)| count).sum()
+    let of_call = table.range((call.into(), 0, String::new())..).take_while(|((name, ..), _)| name == call);
+    of_call.filter(|((_, number, more), _)| fits(*number, more)).map(|(_, count)| count).sum()
 }
 
 /// How often a call gave a number, whatever the step.
@@ -131,7 +156,7 @@ pub fn count(table: &Table, call: &str, number: u8) -> u64 {
 
 /// How often a call gave a number in this step, on these points, or at these sizes.
 pub fn count_with(table: &Table, call: &str, number: u8, more: &str) -> u64 {
-    sum(table, call, |n, m| n == number && m == more)
+    table.get(&(call.into(), number, more.into())).copied().unwrap_or(0)
 }
 
 /// How often a call gave a number, what is told beside it beginning like this.
@@ -149,13 +174,13 @@ pub const STAGES: [Open; 3] = [Open::Nothing, Open::Prediction, Open::Correction
 
 /// How often calls on a side, but for sheet changes, were accepted with each stage of the partner.
 pub fn beside_partner(table: &Table) -> impl Iterator<Item = (String, [u64; 3])> + '_ {
-    let calls = ON_FILTER.iter().filter(|(call, _)| !SHEET.contains(call)).map(|(call, _)| named(Some(Side::One), call));
+    let calls = ON_FILTER.iter().filter(|(call, _)| !SHEET.contains(call)).map(|(call, _)| named(On::Side(Side::One), call));
     calls.map(|call| (call.clone(), STAGES.map(|open| count_with(table, &call, 0, &with_partner(open)))))
 }
 
 /// How often a sheet change came through this side: accepted, by the points of both, and refused by 3, by whose call was open.
 pub fn sheet_changes(table: &Table, call: &str, side: Side) -> Vec<(String, u64)> {
-    let call = named(Some(side), call);
+    let call = named(On::Side(side), call);
     let accepted = [(STALE, STALE), (STALE, IN_USE), (IN_USE, STALE), (IN_USE, IN_USE)].map(|(own, partner)| {
         let met = on_points(own, partner);
         (format!("accepted, {met}"), count_with(table, &call, 0, &through(side, &met)))
@@ -171,7 +196,7 @@ pub const FAULTS: [(&str, &[u8]); 5] =
 /// How often a sheet change with a fault was refused, through either side: for the fault, by the partner's points,
 /// and by 3 for the partner's call, by the number that had to wait.
 pub fn faulty_changes(table: &Table, call: &str) -> Vec<(String, u64)> {
-    let name = named(Some(Side::One), call);
+    let name = named(On::Side(Side::One), call);
     let either = |count: &dyn Fn(Side) -> u64| Side::BOTH.iter().map(|side| count(*side)).sum();
     let refused = [STALE, IN_USE].map(|partner| {
         let on = |own, side| refused_with(table, &name, &through(side, &on_points(own, partner)));
@@ -185,28 +210,74 @@ pub fn faulty_changes(table: &Table, call: &str) -> Vec<(String, u64)> {
     refused.into_iter().chain(first).collect()
 }
 
-/// What of request A5 was not met: what a search can show, bad numbers past what is needed, rows.
-fn place_holes(places: &Table) -> Vec<String> {
+/// What of request A5 was not met by refused calls: what a search can show, rows.
+fn place_holes(places: &Table, on: On) -> Vec<String> {
     let mut wanted = Vec::new();
-    for (call, numbers) in SEARCHED {
-        for number in (51..=56).filter(|number| numbers.contains(number)) {
-            wanted.extend(searches(call, number).into_iter().map(|word| (call, number, word)));
-            wanted.extend(with_rest(call, number).then(|| (call, 0, places::past(number))));
-        }
+    for (call, number) in slices_on(on) {
+        wanted.extend(searches(call, number).into_iter().map(|word| (named(on, call), number, word)));
     }
-    for (call, number, rows) in PIVOTS {
-        wanted.extend((0..rows).map(|row| (call, number, places::row(row))));
+    for (call, number, rows) in PIVOTS.iter().filter(|(call, ..)| has(on, call) && ALONE.contains(&on)) {
+        wanted.extend((0..*rows).map(|row| (named(on, call), *number, places::row(row))));
     }
+    unmet(places, wanted)
+}
+
+/// And by accepted ones: bad numbers past what is needed.
+fn past_holes(places: &Table, on: On) -> Vec<String> {
+    let slices = slices_on(on).filter(|(call, number)| with_rest(call, *number));
+    unmet(places, slices.map(|(call, number)| (named(on, call), 0, places::past(number))).collect())
+}
+
+/// The slices whose searches are to be shown, each once.
+fn slices_on(on: On) -> impl Iterator<Item = (&'static str, u8)> {
+    searching(on).flat_map(|(call, numbers)| (51..=56).filter(|number| numbers.contains(number)).map(move |number| (call, number)))
+}
+
+fn unmet(places: &Table, wanted: Vec<(String, u8, String)>) -> Vec<String> {
     let unmet = wanted.into_iter().filter(|(call, number, word)| count_with(places, call, *number, word) == 0);
     unmet.map(|(call, number, word)| format!("{call}: {number} {word}")).collect()
 }
 
-/// What was not met, by the two tables of a reader.
-pub fn holes(table: &Table, places: &Table) -> Vec<String> {
-    let mut holes = place_holes(places);
-    for (call, numbers) in numbers() {
-        holes.extend(numbers.iter().filter(|number| count(table, &call, **number) == 0).map(|number| format!("{call}: {number}")));
+/// The numbers that were not met, of steps or of what comes before them.
+fn number_holes(table: &Table, on: On, of_steps: bool) -> Vec<String> {
+    let all = numbers_on(on).flat_map(|(call, numbers)| numbers.iter().map(move |number| (call.clone(), *number)));
+    let unmet = all.filter(|(call, number)| matches!(number, 7..=9) == of_steps && count(table, call, *number) == 0);
+    unmet.map(|(call, number)| format!("{call}: {number}")).collect()
+}
+
+/// The stages or the steps that were not met, of a filter that is no side.
+fn step_holes(table: &Table, on: On, stages: bool) -> Vec<String> {
+    let all = STEPS.iter().filter(|(call, _)| has(on, call)).flat_map(|(call, steps)| steps.iter().map(|step| (named(on, call), *step)));
+    let unmet = all.filter(|(call, (number, step))| (*number == 3) == stages && count_with(table, call, *number, step) == 0);
+    unmet.map(|(call, (number, step))| format!("{call}: {number} in {step}")).collect()
+}
+
+/// What was not met of the settings and sizes of a filter that is no side.
+fn round_holes(table: &Table, on: On) -> Vec<String> {
+    let mut holes = Vec::new();
+    for (call, points) in SETTERS.iter().flat_map(|call| [(named(on, call), STALE), (named(on, call), IN_USE)]) {
+        if count_with(table, &call, 0, points) == 0 {
+            holes.push(format!("{call} accepted, points {points}"));
+        }
+        if refused_with(table, &call, points) == 0 {
+            holes.push(format!("{call} refused, points {points}"));
+        }
     }
+    let predictions = (1..=8).map(|n| ("closep", format!("n={n}")));
+    let sizes = (1..=8).flat_map(|n| (1..=4).map(move |m| format!("n={n} m={m}")));
+    let corrections = sizes.flat_map(|size| CORRECTIONS.map(|(call, _)| (call, size.clone())));
+    for (call, size) in predictions.chain(corrections).filter(|(call, _)| has(on, call)) {
+        let call = named(on, call);
+        if count_with(table, &call, 0, &size) == 0 {
+            holes.push(format!("{call} accepted with {size}"));
+        }
+    }
+    holes
+}
+
+/// What was not met of the sides of a pair and of changes of their sheet.
+fn side_holes(table: &Table) -> Vec<String> {
+    let mut holes = Vec::new();
     for (call, counts) in beside_partner(table) {
         let unmet = STAGES.iter().zip(counts).filter(|(_, count)| *count == 0);
         holes.extend(unmet.map(|(open, _)| format!("{call} accepted, {}", with_partner(*open))));
@@ -219,27 +290,32 @@ pub fn holes(table: &Table, places: &Table) -> Vec<String> {
         let unmet = faulty_changes(table, call).into_iter().filter(|(_, count)| *count == 0);
         holes.extend(unmet.map(|(met, _)| format!("@{call} {met}")));
     }
-    for (call, steps) in STEPS {
-        let unmet = steps.iter().filter(|(number, step)| count_with(table, call, *number, step) == 0);
-        holes.extend(unmet.map(|(number, step)| format!("{call}: {number} in {step}")));
-    }
-    for (call, points) in SETTERS.iter().flat_map(|call| [(call, STALE), (call, IN_USE)]) {
-        if count_with(table, call, 0, points) == 0 {
-            holes.push(format!("{call} accepted, points {points}"));
-        }
-        if refused_with(table, call, points) == 0 {
-            holes.push(format!("{call} refused, points {points}"));
-        }
-    }
-    for n in 1..=8 {
-        if count_with(table, "closep", 0, &format!("n={n}")) == 0 {
-            holes.push(format!("closep accepted with n={n}"));
-        }
-        for (call, m) in CORRECTIONS.iter().flat_map(|(call, _)| (1..=4).map(move |m| (call, m))) {
-            if count_with(table, call, 0, &format!("n={n} m={m}")) == 0 {
-                holes.push(format!("{call} accepted with n={n} m={m}"));
-            }
-        }
-    }
     holes
+}
+
+/// What was not met of one of those on whom calls are made, by what leads to it: refused calls, steps that stop, rounds as a user has them.
+pub struct Holes {
+    pub refusals: Vec<String>,
+    pub steps: Vec<String>,
+    pub rounds: Vec<String>,
+}
+
+/// What was not met by the two tables of a reader: of the solo filter, of the f32 filter, of pairs.
+pub fn holes(table: &Table, places: &Table) -> [Holes; 3] {
+    EVERYONE.map(|on| {
+        let (steps, rounds) = match on {
+            On::Side(_) => (vec![], side_holes(table)),
+            _ => (step_holes(table, on, false), [step_holes(table, on, true), round_holes(table, on)].concat()),
+        };
+        Holes {
+            refusals: [number_holes(table, on, false), place_holes(places, on)].concat(),
+            steps: [number_holes(table, on, true), steps].concat(),
+            rounds: [rounds, past_holes(places, on)].concat(),
+        }
+    })
+}
+
+/// All that was not met.
+pub fn not_met(table: &Table, places: &Table) -> Vec<String> {
+    holes(table, places).into_iter().flat_map(|holes| [holes.refusals, holes.steps, holes.rounds].concat()).collect()
 }

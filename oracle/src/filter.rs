@@ -1,6 +1,7 @@
 //! The filter of documents 01 and 02: its calls and refusals around the published Rust.
 //! Each accepted close is worked out twice, by the published Rust and by `steps`; the two must agree in every bit.
 
+use crate::float::Float;
 use crate::kinds::{is_half_turn, Kind};
 use crate::published::{self, Measurement, Published};
 use crate::refusal::{Refusal, Slice};
@@ -46,7 +47,7 @@ pub(crate) fn refuse_if(holds: bool, refusal: Refusal) -> Result<(), Refusal> {
 }
 
 /// Refused at the first number that isn't finite. Lent are the numbers that a call needs of a slice, and no more.
-fn search(slice: Slice, numbers: &[f64]) -> Result<(), Refusal> {
+fn search<T: Float>(slice: Slice, numbers: &[T]) -> Result<(), Refusal> {
     match numbers.iter().position(|number| !number.is_finite()) {
         None => Ok(()),
         Some(place) => Err(Refusal::Number(slice, place)),
@@ -54,11 +55,11 @@ fn search(slice: Slice, numbers: &[f64]) -> Result<(), Refusal> {
 }
 
 /// Bit for bit. What is compared is finite, so that no NaN patterns come into it.
-fn alike(what: &str, ours: &[f64], rust: &[f64]) -> Result<(), Trouble> {
-    if ours.len() == rust.len() && ours.iter().zip(rust).all(|(a, b)| a.to_bits() == b.to_bits()) {
+fn alike<T: Float>(what: &str, ours: &[T], rust: &[T]) -> Result<(), Trouble> {
+    if ours.len() == rust.len() && ours.iter().zip(rust).all(|(a, b)| a.bits() == b.bits()) {
         return Ok(());
     }
-    let bits = |numbers: &[f64]| numbers.iter().map(|x| format!(" {:016x}", x.to_bits())).collect::<String>();
+    let bits = |numbers: &[T]| numbers.iter().map(|x| format!(" {:01$x}", x.bits(), T::HEX)).collect::<String>();
     Err(Trouble::Parted(format!("{what}: documents 01 and 02{}, published Rust{}", bits(ours), bits(rust))))
 }
 
@@ -74,25 +75,25 @@ fn states(n: u64) -> Result<usize, Refusal> {
 }
 
 /// The used places of document 01's filter. w0c and wi stand for all weights.
-pub struct Filter {
+pub struct Filter<T> {
     pub n: usize,
-    pub x: Vec<f64>,
-    pub p: Vec<f64>,
-    pub q: Vec<f64>,
-    pub par: Params,
-    pub kinds: Vec<Kind>,
-    pub weights: [f64; 2],
-    pub points: Vec<f64>,
+    pub x: Vec<T>,
+    pub p: Vec<T>,
+    pub q: Vec<T>,
+    pub par: Params<T>,
+    pub kinds: Vec<Kind<T>>,
+    pub weights: [T; 2],
+    pub points: Vec<T>,
     pub stale: bool,
     pub open: Open,
-    pub drawn_weights: [f64; 2],
-    pub drawn_points: Vec<f64>,
+    pub drawn_weights: [T; 2],
+    pub drawn_points: Vec<T>,
     /// The published filter, which runs at each accepted close; none in the empty filter.
-    rust: Option<Box<dyn Published>>,
+    rust: Option<Box<dyn Published<T>>>,
 }
 
-impl Filter {
-    pub fn empty() -> Filter {
+impl<T: Float> Filter<T> {
+    pub fn empty() -> Filter<T> {
         Filter {
             n: 0,
             x: vec![],
@@ -100,17 +101,17 @@ impl Filter {
             q: vec![],
             par: Params::default(),
             kinds: vec![],
-            weights: [0.0; 2],
+            weights: [T::ZERO; 2],
             points: vec![],
             stale: true,
             open: Open::Nothing,
-            drawn_weights: [0.0; 2],
+            drawn_weights: [T::ZERO; 2],
             drawn_points: vec![],
             rust: None,
         }
     }
 
-    pub fn new(n: u64, x: &[f64], p: &[f64], q: &[f64], par: Params) -> Result<Filter, Trouble> {
+    pub fn new(n: u64, x: &[T], p: &[T], q: &[T], par: Params<T>) -> Result<Filter<T>, Trouble> {
         let n = newable(n, &[Start { x, p }], q, par)?;
         Ok(Filter {
             n,
@@ -119,18 +120,18 @@ impl Filter {
             q: q[..n * n].to_vec(),
             par,
             kinds: vec![Kind::Plain; n],
-            points: vec![0.0; list_length(n)],
-            drawn_points: vec![0.0; list_length(n)],
+            points: vec![T::ZERO; list_length(n)],
+            drawn_points: vec![T::ZERO; list_length(n)],
             rust: Some(published::new(n, x, p, q, par)),
             ..Filter::empty()
         })
     }
 
-    fn rust(&self) -> &dyn Published {
+    fn rust(&self) -> &dyn Published<T> {
         self.rust.as_deref().expect("a filter with states has its published filter")
     }
 
-    fn rust_mut(&mut self) -> &mut dyn Published {
+    fn rust_mut(&mut self) -> &mut dyn Published<T> {
         self.rust.as_deref_mut().expect("a filter with states has its published filter")
     }
 
@@ -153,7 +154,7 @@ impl Filter {
         self.stale = true;
     }
 
-    pub fn set_x(&mut self, x: &[f64]) -> Result<(), Trouble> {
+    pub fn set_x(&mut self, x: &[T]) -> Result<(), Trouble> {
         let n = self.settable()?;
         self.x = front(Slice::State, x, n)?;
         self.rust_mut().set_x(x);
@@ -161,7 +162,7 @@ impl Filter {
         Ok(())
     }
 
-    pub fn set_p(&mut self, p: &[f64]) -> Result<(), Trouble> {
+    pub fn set_p(&mut self, p: &[T]) -> Result<(), Trouble> {
         let n = self.settable()?;
         self.p = front(Slice::Covariance, p, n * n)?;
         self.rust_mut().set_p(p);
@@ -169,14 +170,14 @@ impl Filter {
         Ok(())
     }
 
-    pub fn set_q(&mut self, q: &[f64]) -> Result<(), Trouble> {
+    pub fn set_q(&mut self, q: &[T]) -> Result<(), Trouble> {
         let n = self.settable()?;
         self.q = front(Slice::Noise, q, n * n)?;
         self.rust_mut().set_q(q);
         Ok(())
     }
 
-    pub fn set_params(&mut self, par: Params) -> Result<(), Trouble> {
+    pub fn set_params(&mut self, par: Params<T>) -> Result<(), Trouble> {
         let n = self.settable()?;
         pass_params(n, par)?;
         self.par = par;
@@ -185,7 +186,7 @@ impl Filter {
         Ok(())
     }
 
-    pub fn set_kind(&mut self, i: u64, kind: Kind) -> Result<(), Trouble> {
+    pub fn set_kind(&mut self, i: u64, kind: Kind<T>) -> Result<(), Trouble> {
         let n = self.settable()?;
         refuse_if(i >= n as u64, Refusal::Size)?;
         pass_kinds(&[kind])?;
@@ -197,26 +198,26 @@ impl Filter {
     }
 
     /// A published filter like this one, stale and with nothing drawn: its draw is what an open shows.
-    fn twin(&self) -> Box<dyn Published> {
+    fn twin(&self) -> Box<dyn Published<T>> {
         published::new(self.n, &self.x, &self.p, &self.q, self.par)
     }
 
     /// The checks that both opens begin with.
-    fn openable(&self, buffer: &[f64]) -> Result<usize, Refusal> {
+    fn openable(&self, buffer: &[T]) -> Result<usize, Refusal> {
         let n = self.settable()?;
         refuse_if(buffer.len() < list_length(n), Refusal::Short)?;
         Ok(n)
     }
 
     /// Keeps what was drawn and writes it out.
-    fn opened(&mut self, open: Open, points: Vec<f64>, weights: [f64; 2], buffer: &mut [f64]) {
+    fn opened(&mut self, open: Open, points: Vec<T>, weights: [T; 2], buffer: &mut [T]) {
         buffer[..points.len()].copy_from_slice(&points);
         self.open = open;
         self.drawn_points = points;
         self.drawn_weights = weights;
     }
 
-    pub fn open_prediction(&mut self, buffer: &mut [f64]) -> Result<(), Trouble> {
+    pub fn open_prediction(&mut self, buffer: &mut [T]) -> Result<(), Trouble> {
         let n = self.openable(buffer)?;
         let weights = Weights::of(n, self.par);
         let points = steps::draw(n, &self.x, &self.p, weights.total)?;
@@ -228,7 +229,7 @@ impl Filter {
         Ok(())
     }
 
-    pub fn open_correction(&mut self, buffer: &mut [f64]) -> Result<(), Trouble> {
+    pub fn open_correction(&mut self, buffer: &mut [T]) -> Result<(), Trouble> {
         let n = self.openable(buffer)?;
         if !self.stale {
             self.opened(Open::Correction, self.points.clone(), self.weights, buffer);
@@ -256,8 +257,8 @@ impl Filter {
     /// Nothing is open and the scratch is +0.
     fn emptied(&mut self) {
         self.open = Open::Nothing;
-        self.drawn_points = vec![0.0; list_length(self.n)];
-        self.drawn_weights = [0.0; 2];
+        self.drawn_points = vec![T::ZERO; list_length(self.n)];
+        self.drawn_weights = [T::ZERO; 2];
     }
 
     /// The checks that all closes begin with.
@@ -266,7 +267,7 @@ impl Filter {
         self.sized()
     }
 
-    pub fn close_prediction(&mut self, propagated: &[f64]) -> Result<(), Trouble> {
+    pub fn close_prediction(&mut self, propagated: &[T]) -> Result<(), Trouble> {
         let n = self.closable(Open::Prediction)?;
         let propagated = front(Slice::Points, propagated, list_length(n))?;
         let [w0c, wi] = self.drawn_weights;
@@ -281,7 +282,7 @@ impl Filter {
     }
 
     /// What both closes of a correction begin with: 3, 1, 2, then 53, 54 and 55, which is not the order in which they are lent. No kinds yet: all plain.
-    fn measured<'a>(&self, m: u64, z: &'a [f64], r: &'a [f64], observed: &'a [f64]) -> Result<Measurement<'a>, Refusal> {
+    fn measured<'a>(&self, m: u64, z: &'a [T], r: &'a [T], observed: &'a [T]) -> Result<Measurement<'a, T>, Refusal> {
         let n = self.closable(Open::Correction)?;
         refuse_if(!(1..=4).contains(&m), Refusal::Size)?;
         let m = m as usize;
@@ -293,7 +294,7 @@ impl Filter {
         Ok(Measurement { m, z, r, kinds: &[Kind::Plain; 4][..m], observed })
     }
 
-    pub fn close_correction(&mut self, m: u64, z: &[f64], r: &[f64], kinds: [Kind; 4], observed: &[f64]) -> Result<(), Trouble> {
+    pub fn close_correction(&mut self, m: u64, z: &[T], r: &[T], kinds: [Kind<T>; 4], observed: &[T]) -> Result<(), Trouble> {
         let with = self.measured(m, z, r, observed)?;
         let kinds = &kinds[..with.m];
         pass_kinds(kinds)?;
@@ -301,13 +302,13 @@ impl Filter {
     }
 
     /// Request A1: averages know no kinds, so a filter with a turn is turned away.
-    pub fn close_flat(&mut self, m: u64, z: &[f64], r: &[f64], observed: &[f64]) -> Result<(), Trouble> {
+    pub fn close_flat(&mut self, m: u64, z: &[T], r: &[T], observed: &[T]) -> Result<(), Trouble> {
         let with = self.measured(m, z, r, observed)?;
         refuse_if(self.kinds.iter().any(|kind| kind.half().is_some()), Refusal::Kind)?;
         self.corrected(Average::Flat, &with)
     }
 
-    fn corrected(&mut self, average: Average, with: &Measurement) -> Result<(), Trouble> {
+    fn corrected(&mut self, average: Average, with: &Measurement<T>) -> Result<(), Trouble> {
         let ours = steps::correct(&Correction {
             average,
             n: self.n,
@@ -345,29 +346,29 @@ impl Filter {
         Ok(())
     }
 
-    pub fn read_x(&self, buffer: &mut [f64]) -> Result<(), Trouble> {
+    pub fn read_x(&self, buffer: &mut [T]) -> Result<(), Trouble> {
         self.sized()?;
         written(&self.x, buffer)
     }
 
-    pub fn read_p(&self, buffer: &mut [f64]) -> Result<(), Trouble> {
+    pub fn read_p(&self, buffer: &mut [T]) -> Result<(), Trouble> {
         self.sized()?;
         written(&self.p, buffer)
     }
 
-    pub fn read_q(&self, buffer: &mut [f64]) -> Result<(), Trouble> {
+    pub fn read_q(&self, buffer: &mut [T]) -> Result<(), Trouble> {
         self.sized()?;
         written(&self.q, buffer)
     }
 
-    pub fn read_points(&self, buffer: &mut [f64]) -> Result<(), Trouble> {
+    pub fn read_points(&self, buffer: &mut [T]) -> Result<(), Trouble> {
         let n = self.sized()?;
         refuse_if(buffer.len() < list_length(n), Refusal::Short)?;
         refuse_if(self.stale, Refusal::Stale)?;
         written(&self.points, buffer)
     }
 
-    pub fn read_params(&self) -> Result<Params, Trouble> {
+    pub fn read_params(&self) -> Result<Params<T>, Trouble> {
         self.sized()?;
         Ok(self.par)
     }
@@ -379,13 +380,13 @@ impl Filter {
 }
 
 /// What New is lent for one filter.
-pub struct Start<'a> {
-    pub x: &'a [f64],
-    pub p: &'a [f64],
+pub struct Start<'a, T> {
+    pub x: &'a [T],
+    pub p: &'a [T],
 }
 
 /// The checks of New, for a filter or for both of a pair (request A4): 1, 2, then 51 and 52 of each start in turn, 53, 56, 6.
-pub(crate) fn newable(n: u64, starts: &[Start], q: &[f64], par: Params) -> Result<usize, Refusal> {
+pub(crate) fn newable<T: Float>(n: u64, starts: &[Start<T>], q: &[T], par: Params<T>) -> Result<usize, Refusal> {
     let n = states(n)?;
     refuse_if(starts.iter().any(|start| start.x.len() < n || start.p.len() < n * n) || q.len() < n * n, Refusal::Short)?;
     for start in starts {
@@ -398,53 +399,53 @@ pub(crate) fn newable(n: u64, starts: &[Start], q: &[f64], par: Params) -> Resul
 }
 
 /// The front of a lent slice: 2 where it is short, then the slice's own number.
-fn front(slice: Slice, numbers: &[f64], wanted: usize) -> Result<Vec<f64>, Refusal> {
+fn front<T: Float>(slice: Slice, numbers: &[T], wanted: usize) -> Result<Vec<T>, Refusal> {
     refuse_if(numbers.len() < wanted, Refusal::Short)?;
     search(slice, &numbers[..wanted])?;
     Ok(numbers[..wanted].to_vec())
 }
 
 /// Alpha, beta and kappa have the places 0, 1, 2.
-fn pass_params(n: usize, par: Params) -> Result<(), Refusal> {
+fn pass_params<T: Float>(n: usize, par: Params<T>) -> Result<(), Refusal> {
     search(Slice::Lone, &par.numbers())?;
     refuse_if(!Weights::of(n, par).pass(), Refusal::Param)
 }
 
 /// A half-turn's place is its index among the kinds; a plain one, which has none, counts there as a number that is fine. Every 56 before any 6.
-fn pass_kinds(kinds: &[Kind]) -> Result<(), Refusal> {
-    let halves: Vec<f64> = kinds.iter().map(|kind| kind.half().unwrap_or(1.0)).collect();
+fn pass_kinds<T: Float>(kinds: &[Kind<T>]) -> Result<(), Refusal> {
+    let halves: Vec<T> = kinds.iter().map(|kind| kind.half().unwrap_or(T::ONE)).collect();
     search(Slice::Lone, &halves)?;
     refuse_if(!halves.iter().all(|h| is_half_turn(*h)), Refusal::Param)
 }
 
-fn written(numbers: &[f64], buffer: &mut [f64]) -> Result<(), Trouble> {
+fn written<T: Float>(numbers: &[T], buffer: &mut [T]) -> Result<(), Trouble> {
     refuse_if(buffer.len() < numbers.len(), Refusal::Short)?;
     buffer[..numbers.len()].copy_from_slice(numbers);
     Ok(())
 }
 
 /// The weights as the published Rust keeps them, one a point.
-fn all_weights(n: usize, [w0c, wi]: [f64; 2]) -> Vec<f64> {
+fn all_weights<T: Float>(n: usize, [w0c, wi]: [T; 2]) -> Vec<T> {
     let mut all = vec![wi; 2 * n + 1];
     all[0] = w0c;
     all
 }
 
 /// Point k of a lent list: where it starts and how long it is.
-pub fn point(n: u64, k: u64, list: &[f64]) -> Result<(usize, usize), Trouble> {
+pub fn point<T>(n: u64, k: u64, list: &[T]) -> Result<(usize, usize), Trouble> {
     let n = states(n)?;
     refuse_if(k > 2 * n as u64, Refusal::Size)?;
     refuse_if(list.len() < list_length(n), Refusal::Short)?;
     Ok((k as usize * n, n))
 }
 
-pub fn wrap(d: f64, h: f64) -> Result<f64, Trouble> {
+pub fn wrap<T: Float>(d: T, h: T) -> Result<T, Trouble> {
     search(Slice::Lone, &[d])?;
     pass_kinds(&[Kind::Turn(h)])?;
     Ok(Kind::Turn(h).fixed(d))
 }
 
-pub fn root(a: f64) -> Result<f64, Trouble> {
-    refuse_if(!a.is_finite() || a < 0.0, Refusal::Number(Slice::Lone, 0))?;
-    Ok(a.sqrt())
+pub fn root<T: Float>(a: T) -> Result<T, Trouble> {
+    refuse_if(!a.is_finite() || a < T::ZERO, Refusal::Number(Slice::Lone, 0))?;
+    Ok(a.root())
 }

@@ -1,15 +1,17 @@
 //! Residual kinds and the exact wrap, as document 01 lays them down; they replace the Rust's function pointer.
 
+use crate::float::Float;
+
 /// How a difference is passed on.
 #[derive(Clone, Copy, Debug, PartialEq)]
-pub enum Kind {
+pub enum Kind<T> {
     Plain,
     /// A turn, with its half-turn.
-    Turn(f64),
+    Turn(T),
 }
 
-impl Kind {
-    pub fn fixed(self, d: f64) -> f64 {
+impl<T: Float> Kind<T> {
+    pub fn fixed(self, d: T) -> T {
         match self {
             Kind::Plain => d,
             Kind::Turn(h) => wrap(d, h),
@@ -17,7 +19,7 @@ impl Kind {
     }
 
     /// The half-turn of a turn.
-    pub fn half(self) -> Option<f64> {
+    pub fn half(self) -> Option<T> {
         match self {
             Kind::Plain => None,
             Kind::Turn(h) => Some(h),
@@ -25,9 +27,9 @@ impl Kind {
     }
 }
 
-/// `%` on f64 is exact (C's fmod), and so are both sums: the result is in (−h, h] and differs from d by whole turns.
-pub fn wrap(d: f64, h: f64) -> f64 {
-    let turn = 2.0 * h;
+/// `%` is exact, and so are both sums: the result is in (−h, h] and differs from d by whole turns.
+pub fn wrap<T: Float>(d: T, h: T) -> T {
+    let turn = h + h;
     let r = d % turn;
     if r > h {
         r - turn
@@ -39,6 +41,6 @@ pub fn wrap(d: f64, h: f64) -> f64 {
 }
 
 /// A half-turn that passes 6: above 0, and its double finite.
-pub fn is_half_turn(h: f64) -> bool {
-    h > 0.0 && (2.0 * h).is_finite()
+pub fn is_half_turn<T: Float>(h: T) -> bool {
+    h > T::ZERO && (h + h).is_finite()
 }

@@ -25,6 +25,7 @@ include!(concat!(env!("OUT_DIR"), "/angles.rs"));
 pub mod buffers;
 pub mod coverage;
 pub mod filter;
+pub mod float;
 pub mod kinds;
 pub mod pair;
 pub mod places;

@@ -1,7 +1,7 @@
 //! Matrices and the leaves that document 01 lays down: what the published files find at `crate::matrix`.
 //! Every operation rounds once, in document 01's order; nothing is fused (Rust never fuses by itself).
 
-use std::ops::{Add, AddAssign, Div, Mul, Sub};
+use crate::float::Float;
 
 /// The one trait of `num_traits` that the published files name.
 pub trait FromPrimitive: Sized {
@@ -10,49 +10,35 @@ pub trait FromPrimitive: Sized {
     fn from_f64(n: f64) -> Option<Self>;
 }
 
-impl FromPrimitive for f64 {
-    fn from_usize(n: usize) -> Option<f64> {
-        Some(n as f64)
+impl<T: Float> FromPrimitive for T {
+    fn from_usize(n: usize) -> Option<T> {
+        Some(T::of_size(n))
     }
-    fn from_u8(n: u8) -> Option<f64> {
-        Some(f64::from(n))
+    fn from_u8(n: u8) -> Option<T> {
+        Some(T::of_size(n.into()))
     }
-    fn from_f64(n: f64) -> Option<f64> {
-        Some(n)
+    fn from_f64(n: f64) -> Option<T> {
+        Some(T::near(n))
     }
 }
 
 /// What the published `angles.rs` asks of a number.
-pub trait MatrixDataTypeBase:
-    Copy + Default + PartialOrd + FromPrimitive + AddAssign + Add<Output = Self> + Sub<Output = Self> + Mul<Output = Self> + Div<Output = Self>
-{
+pub trait MatrixDataTypeBase: Float + FromPrimitive {
     fn zero() -> Self {
-        Self::default()
+        Self::ZERO
     }
-    /// 1, finiteness and "above 0" are asked by our leaves only.
-    fn one() -> Self;
-    fn is_finite(self) -> bool;
 }
+
+impl<T: Float> MatrixDataTypeBase for T {}
 
 /// What the published filter asks of a number.
 pub trait MatrixDataType: MatrixDataTypeBase {
-    fn square_root(self) -> Self;
-}
-
-impl MatrixDataTypeBase for f64 {
-    fn one() -> f64 {
-        1.0
-    }
-    fn is_finite(self) -> bool {
-        f64::is_finite(self)
+    fn square_root(self) -> Self {
+        self.root()
     }
 }
 
-impl MatrixDataType for f64 {
-    fn square_root(self) -> f64 {
-        self.sqrt()
-    }
-}
+impl<T: Float> MatrixDataType for T {}
 
 /// A matrix that can be read.
 pub trait Matrix<const ROWS: usize, const COLS: usize, T> {
@@ -132,7 +118,7 @@ pub trait SquareMatrix<const N: usize, T: MatrixDataType>: MatrixMut<N, N, T> {
         for j in 0..N {
             let mut pivot = self.get(j, j);
             for k in 0..j {
-                pivot = pivot - self.get(j, k) * self.get(j, k);
+                pivot -= self.get(j, k) * self.get(j, k);
             }
             if !(pivot.is_finite() && pivot > T::zero()) {
                 return false;
@@ -142,7 +128,7 @@ pub trait SquareMatrix<const N: usize, T: MatrixDataType>: MatrixMut<N, N, T> {
             for i in j + 1..N {
                 let mut entry = self.get(i, j);
                 for k in 0..j {
-                    entry = entry - self.get(i, k) * self.get(j, k);
+                    entry -= self.get(i, k) * self.get(j, k);
                 }
                 entry = entry / root;
                 self.set(i, j, entry);
@@ -163,16 +149,16 @@ pub trait SquareMatrix<const N: usize, T: MatrixDataType>: MatrixMut<N, N, T> {
     fn invert_l_cholesky<V: MatrixMut<N, N, T>>(&self, inverse: &mut V) {
         for c in 0..N {
             for i in 0..N {
-                let mut u = if i == c { T::one() } else { T::zero() };
+                let mut u = if i == c { T::ONE } else { T::zero() };
                 for k in 0..i {
-                    u = u - self.get(i, k) * inverse.get(k, c);
+                    u -= self.get(i, k) * inverse.get(k, c);
                 }
                 inverse.set(i, c, u / self.get(i, i));
             }
             for i in (0..N).rev() {
                 let mut v = inverse.get(i, c);
                 for k in i + 1..N {
-                    v = v - self.get(k, i) * inverse.get(k, c);
+                    v -= self.get(k, i) * inverse.get(k, c);
                 }
                 inverse.set(i, c, v / self.get(i, i));
             }

@@ -31,7 +31,7 @@ impl Side {
 }
 
 pub struct Pair {
-    sides: [Filter; 2],
+    sides: [Filter<f64>; 2],
 }
 
 impl Pair {
@@ -40,23 +40,23 @@ impl Pair {
     }
 
     /// One n, checked once; 2 is looked for in all that both are lent, then the numbers of the first x and P before those of the second.
-    pub fn new(n: u64, starts: [Start; 2], q: &[f64], par: Params) -> Result<Pair, Trouble> {
+    pub fn new(n: u64, starts: [Start<f64>; 2], q: &[f64], par: Params<f64>) -> Result<Pair, Trouble> {
         newable(n, &starts, q, par)?;
         let [one, two] = starts.map(|start| Filter::new(n, start.x, start.p, q, par));
         Ok(Pair { sides: [one?, two?] })
     }
 
-    pub fn side(&self, side: Side) -> &Filter {
+    pub fn side(&self, side: Side) -> &Filter<f64> {
         &self.sides[side as usize]
     }
 
-    pub fn side_mut(&mut self, side: Side) -> &mut Filter {
+    pub fn side_mut(&mut self, side: Side) -> &mut Filter<f64> {
         &mut self.sides[side as usize]
     }
 
     /// A sheet change, through either side: 3 while either has a call open. With nothing open a setting looks at n and at what it is lent,
     /// so both filters take it or neither does; each marks itself as it would alone.
-    pub fn change(&mut self, setting: impl Fn(&mut Filter) -> Result<(), Trouble>) -> Result<(), Trouble> {
+    pub fn change(&mut self, setting: impl Fn(&mut Filter<f64>) -> Result<(), Trouble>) -> Result<(), Trouble> {
         refuse_if(self.sides.iter().any(|side| side.open != Open::Nothing), Refusal::Stage)?;
         self.sides.iter_mut().try_for_each(setting)
     }

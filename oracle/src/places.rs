@@ -1,5 +1,6 @@
 //! What the place in an answer (request A5) was told among. It goes into a table of what was met; no answer comes from here.
 
+use crate::float::Float;
 use crate::kinds::{is_half_turn, Kind};
 use crate::refusal::Slice;
 use crate::steps::{all_finite, Params, Weights};
@@ -30,13 +31,13 @@ pub fn row(row: usize) -> String {
 }
 
 /// What a call is lent of a slice, and how many numbers of it the call needs.
-struct Lent {
+struct Lent<T> {
     slice: Slice,
-    numbers: Vec<f64>,
+    numbers: Vec<T>,
     needed: usize,
 }
 
-impl Lent {
+impl<T: Float> Lent<T> {
     fn bad(&self) -> usize {
         self.numbers[..self.needed].iter().filter(|number| !number.is_finite()).count()
     }
@@ -44,24 +45,24 @@ impl Lent {
 
 /// What a call searches: its slices in that order, the kinds of its measurements, and what it would be refused by once they are searched.
 #[derive(Default)]
-pub struct Search {
-    slices: Vec<Lent>,
-    kinds: Vec<Kind>,
+pub struct Search<T> {
+    slices: Vec<Lent<T>>,
+    kinds: Vec<Kind<T>>,
     after: Option<u8>,
 }
 
-impl Search {
-    pub fn of(slice: Slice, numbers: &[f64], needed: usize) -> Search {
+impl<T: Float> Search<T> {
+    pub fn of(slice: Slice, numbers: &[T], needed: usize) -> Search<T> {
         Search::default().and(slice, numbers, needed)
     }
 
-    fn and(mut self, slice: Slice, numbers: &[f64], needed: usize) -> Search {
+    fn and(mut self, slice: Slice, numbers: &[T], needed: usize) -> Search<T> {
         self.slices.push(Lent { slice, numbers: numbers.to_vec(), needed });
         self
     }
 
     /// New's, for a filter or for both of a pair.
-    pub fn of_new(n: usize, starts: &[(&[f64], &[f64])], q: &[f64], par: Params) -> Search {
+    pub fn of_new(n: usize, starts: &[(&[T], &[T])], q: &[T], par: Params<T>) -> Search<T> {
         let search =
             starts.iter().fold(Search::default(), |search, (x, p)| search.and(Slice::State, x, n).and(Slice::Covariance, p, n * n));
         let after = (all_finite(&par.numbers()) && !Weights::of(n, par).pass()).then_some(6);
@@ -69,14 +70,14 @@ impl Search {
     }
 
     /// The weighted close's.
-    pub fn of_close(n: usize, m: usize, z: &[f64], r: &[f64], kinds: &[Kind; 4], observed: &[f64]) -> Search {
-        let halves = kinds.map(|kind| kind.half().unwrap_or(1.0));
+    pub fn of_close(n: usize, m: usize, z: &[T], r: &[T], kinds: &[Kind<T>; 4], observed: &[T]) -> Search<T> {
+        let halves = kinds.map(|kind| kind.half().unwrap_or(T::ONE));
         let search = Search::of_flat_close(n, m, z, r, false, observed).and(Slice::Lone, &halves, m);
         Search { kinds: kinds[..m].to_vec(), after: fails(&kinds[..m]).then_some(6), ..search }
     }
 
     /// The flat close's, of a filter that has a turn or hasn't.
-    pub fn of_flat_close(n: usize, m: usize, z: &[f64], r: &[f64], turn: bool, observed: &[f64]) -> Search {
+    pub fn of_flat_close(n: usize, m: usize, z: &[T], r: &[T], turn: bool, observed: &[T]) -> Search<T> {
         let search = Search::of(Slice::Noise, r, m * m).and(Slice::Points, observed, m * (2 * n + 1)).and(Slice::Measurement, z, m);
         Search { after: turn.then_some(10), ..search }
     }
@@ -85,7 +86,7 @@ impl Search {
     pub fn shown(&self, number: u8, place: usize) -> Vec<String> {
         match number {
             0 => {
-                let judged = |lent: &&Lent| all_finite(&lent.numbers[lent.needed..]);
+                let judged = |lent: &&Lent<T>| all_finite(&lent.numbers[lent.needed..]);
                 self.slices.iter().filter(|lent| !judged(lent)).map(|lent| past(lent.slice.number())).collect()
             }
             7 | 8 => vec![row(place)],
@@ -119,6 +120,6 @@ impl Search {
 }
 
 /// Whether a half-turn is finite, but none that 6 lets pass.
-fn fails(kinds: &[Kind]) -> bool {
+fn fails<T: Float>(kinds: &[Kind<T>]) -> bool {
     kinds.iter().filter_map(|kind| kind.half()).any(|h| h.is_finite() && !is_half_turn(h))
 }

@@ -3,6 +3,7 @@
 use std::collections::BTreeMap;
 
 use crate::filter::{self, list_length, Filter, Open, Start, Trouble};
+use crate::float::Float;
 use crate::kinds::Kind;
 use crate::pair::{Pair, Side};
 use crate::places::Search;
@@ -13,7 +14,7 @@ use crate::steps::Params;
 pub const LINE: usize = 16_384;
 pub const LIST: u64 = 512;
 
-/// How often each call gave each number, and beside it the stage or step that refused, the sizes of an accepted close of the solo filter,
+/// How often each call gave each number, and beside it the stage or step that refused, the sizes of an accepted close of a filter that is no side,
 /// or how things stood before the call (`Reader::beside`).
 pub type Table = BTreeMap<(String, u8, String), u64>;
 
@@ -33,9 +34,30 @@ pub const OWN_OPEN: &str = "own call open";
 pub const PARTNER_OPEN: &str = "partner's call open";
 pub const BOTH_OPEN: &str = "both calls open";
 
-/// A reader of scripts: the one current filter, the one current pair, and the tables of what was met.
+/// On whom a call is made.
+#[derive(Clone, Copy, Debug, PartialEq)]
+pub enum On {
+    Solo,
+    /// The f32 filter of request A6.
+    Narrow,
+    Side(Side),
+}
+
+impl On {
+    /// As a script names it; the solo filter has no name.
+    pub const fn name(self) -> &'static str {
+        match self {
+            On::Solo => "",
+            On::Narrow => "@w",
+            On::Side(side) => side.name(),
+        }
+    }
+}
+
+/// A reader of scripts: the one current filter, the one current f32 filter, the one current pair, and the tables of what was met.
 pub struct Reader {
-    pub filter: Filter,
+    pub filter: Filter<f64>,
+    pub narrow: Filter<f32>,
     pub pair: Pair,
     pub table: Table,
     /// What places were told among (`Search::shown`); an answer may show several things, or none.
@@ -56,27 +78,27 @@ struct Told {
 
 impl Default for Reader {
     fn default() -> Self {
-        Reader { filter: Filter::empty(), pair: Pair::empty(), table: Table::new(), places: Table::new() }
+        Reader { filter: Filter::empty(), narrow: Filter::empty(), pair: Pair::empty(), table: Table::new(), places: Table::new() }
     }
 }
 
 impl Reader {
     /// The answer to a line (without its line end), if it gets one. An error says where the published Rust parts from documents 01 and 02.
     pub fn answer(&mut self, line: &[u8]) -> Result<Option<String>, String> {
-        let told = if line.len() > LINE {
+        let read = if line.len() > LINE {
             Err(Bad)
         } else {
             let mut tokens = Tokens::of(line);
             let Some(word) = tokens.next() else {
                 return Ok(None);
             };
-            call(word, tokens)
+            read(word, tokens)
         };
-        let told = match told {
-            Ok(call) => {
-                let told = self.take(&call)?;
+        let told = match read {
+            Ok(line) => {
+                let told = self.take(&line)?;
                 if matches!(told.number, 0 | 7 | 8 | 51..=56) {
-                    for word in self.search(&call).shown(told.number, told.place) {
+                    for word in self.shown(&line, told.number, told.place) {
                         *self.places.entry((told.call.clone(), told.number, word)).or_default() += 1;
                     }
                 }
@@ -88,87 +110,73 @@ impl Reader {
         Ok(Some(told.text))
     }
 
-    fn take(&mut self, call: &Call) -> Result<Told, String> {
-        match call {
-            Call::New(n, x, p, q, par) => {
-                let made = Filter::new(*n, x, p, q, *par);
-                renewed("new", &mut self.filter, made, Filter::empty())
+    fn take(&mut self, line: &Line) -> Result<Told, String> {
+        match line {
+            Line::Solo(call) => taken(&mut self.filter, call),
+            Line::Narrow(call) => {
+                let told = taken(&mut self.narrow, call)?;
+                Ok(Told { call: named(On::Narrow, &told.call), ..told })
             }
-            Call::NewPair(n, x1, p1, x2, p2, q, par) => {
+            Line::NewPair(n, x1, p1, x2, p2, q, par) => {
                 let made = Pair::new(*n, [Start { x: x1, p: p1 }, Start { x: x2, p: p2 }], q, *par);
                 renewed("newpair", &mut self.pair, made, Pair::empty())
             }
-            Call::On(on, call) => {
-                let beside = self.beside(*on, call.name());
-                let told = match (*on, call) {
-                    (Some(side), OnFilter::Set(setting)) if SHEET.contains(&setting.name()) => {
+            Line::Side(side, call) => {
+                let beside = self.beside_partner(*side, call.name());
+                let told = match call {
+                    OnFilter::Set(setting) if SHEET.contains(&setting.name()) => {
                         let told = bare(setting.name(), self.pair.change(|filter| setting.put(filter)))?;
-                        let more = if told.number == 3 { before(&beside, setting.fault(self.pair.side(side))) } else { String::new() };
-                        Ok(Told { more, ..told })
+                        let more = if told.number == 3 { before(&beside, setting.fault(self.pair.side(*side))) } else { String::new() };
+                        Told { more, ..told }
                     }
-                    (Some(side), _) => on_filter(self.pair.side_mut(side), call),
-                    (None, _) => on_filter(&mut self.filter, call),
-                }?;
-                let more = if told.more.is_empty() || on.is_some() && told.number == 0 { beside } else { told.more };
-                Ok(Told { call: named(*on, &told.call), more, ..told })
+                    _ => on_filter(self.pair.side_mut(*side), call)?,
+                };
+                let more = if told.more.is_empty() || told.number == 0 { beside } else { told.more };
+                Ok(Told { call: named(On::Side(*side), &told.call), more, ..told })
             }
-            Call::Point(n, k, list) => told("point", filter::point(*n, *k, list), |part| {
-                let (start, length) = part.unwrap_or((0, 0));
-                format!(" {start} {length}{}", bits(&list[start..start + length]))
-            }),
-            Call::Wrap(d, h) => told("wrap", filter::wrap(*d, *h), |wrapped| bits(&[wrapped.unwrap_or(0.0)])),
-            Call::Root(a) => told("root", filter::root(*a), |root| bits(root.as_slice())),
         }
     }
 
-    /// What a call that wasn't refused before has searched; but for single numbers.
-    fn search(&self, call: &Call) -> Search {
-        let (on, call) = match call {
-            Call::New(n, x, p, q, par) => return Search::of_new(*n as usize, &[(x, p)], q, *par),
-            Call::NewPair(n, x1, p1, x2, p2, q, par) => return Search::of_new(*n as usize, &[(x1, p1), (x2, p2)], q, *par),
-            Call::On(on, call) => (self.filter(*on), call),
-            _ => return Search::default(),
-        };
-        let n = on.n;
+    /// What an answer with this number and place shows of the search.
+    fn shown(&self, line: &Line, number: u8, place: usize) -> Vec<String> {
+        match line {
+            Line::Solo(call) => searched(&self.filter, call).shown(number, place),
+            Line::Narrow(call) => searched(&self.narrow, call).shown(number, place),
+            Line::NewPair(n, x1, p1, x2, p2, q, par) => Search::of_new(*n as usize, &[(x1, p1), (x2, p2)], q, *par).shown(number, place),
+            Line::Side(side, call) => searched_on(self.pair.side(*side), call).shown(number, place),
+        }
+    }
+
+    /// How things stand before a call on a filter, as the table tells it.
+    pub fn beside(&self, on: On, call: &str) -> String {
+        match on {
+            On::Solo => own_state(&self.filter, call),
+            On::Narrow => own_state(&self.narrow, call),
+            On::Side(side) => self.beside_partner(side, call),
+        }
+    }
+
+    /// For a sheet change both sides count, for any other call on a side what its partner has open. The empty pair has nothing to tell.
+    fn beside_partner(&self, side: Side, call: &str) -> String {
+        let (own, partner) = (self.pair.side(side), self.pair.side(side.partner()));
         match call {
-            OnFilter::Set(Setting::X(x)) => Search::of(Slice::State, x, n),
-            OnFilter::Set(Setting::P(p)) => Search::of(Slice::Covariance, p, n * n),
-            OnFilter::Set(Setting::Q(q)) => Search::of(Slice::Noise, q, n * n),
-            OnFilter::Set(Setting::Par(par)) => Search::of(Slice::Lone, &par.numbers(), 3),
-            OnFilter::CloseP(propagated) => Search::of(Slice::Points, propagated, list_length(n)),
-            OnFilter::CloseC(m, z, r, kinds, observed) => Search::of_close(n, *m as usize, z, r, kinds, observed),
-            OnFilter::CloseF(m, z, r, observed) => {
-                let turn = on.kinds.iter().any(|kind| kind.half().is_some());
-                Search::of_flat_close(n, *m as usize, z, r, turn, observed)
-            }
-            _ => Search::default(),
-        }
-    }
-
-    /// The solo filter, or a side.
-    pub fn filter(&self, on: Option<Side>) -> &Filter {
-        match on {
-            None => &self.filter,
-            Some(side) => self.pair.side(side),
-        }
-    }
-
-    /// How things stand before a call on a filter, as the table tells it: for a sheet change both sides count, for any other call on a side
-    /// what its partner has open, for a setting of the solo filter its own stage and points. The empty filter has nothing to tell.
-    pub fn beside(&self, on: Option<Side>, call: &str) -> String {
-        let own = self.filter(on);
-        match on {
             _ if own.n == 0 => String::new(),
-            Some(side) if SHEET.contains(&call) => through(side, &sheet_meets(own, self.pair.side(side.partner()))),
-            Some(side) => with_partner(self.pair.side(side.partner()).open),
-            None if !SETTERS.contains(&call) => String::new(),
-            None if own.open != Open::Nothing => own.open.name().into(),
-            None => points(own).into(),
+            _ if SHEET.contains(&call) => through(side, &sheet_meets(own, partner)),
+            _ => with_partner(partner.open),
         }
     }
 }
 
-fn points(filter: &Filter) -> &'static str {
+/// For a setting of a filter that is no side its own stage and points count. Other calls, and the empty filter, have nothing to tell.
+fn own_state<T>(filter: &Filter<T>, call: &str) -> String {
+    match filter.open {
+        _ if filter.n == 0 || !SETTERS.contains(&call) => String::new(),
+        Open::Nothing => points(filter).into(),
+        open => open.name().into(),
+    }
+}
+
+fn points<T>(filter: &Filter<T>) -> &'static str {
     if filter.stale {
         STALE
     } else {
@@ -177,7 +185,7 @@ fn points(filter: &Filter) -> &'static str {
 }
 
 /// What a sheet change meets: open calls, or else points of both sides.
-fn sheet_meets(own: &Filter, partner: &Filter) -> String {
+fn sheet_meets(own: &Filter<f64>, partner: &Filter<f64>) -> String {
     match (own.open, partner.open) {
         (Open::Nothing, Open::Nothing) => on_points(points(own), points(partner)),
         (_, Open::Nothing) => OWN_OPEN.into(),
@@ -206,11 +214,60 @@ pub fn with_partner(open: Open) -> String {
     format!("partner with {}", open.name())
 }
 
-/// A call's name in the table: on a side with `@` before it.
-pub fn named(on: Option<Side>, call: &str) -> String {
+/// A call's name in the table: on a side, whichever, with `@` before it; New of a pair is on both.
+pub fn named(on: On, call: &str) -> String {
     match on {
-        None => call.into(),
-        Some(_) => format!("@{call}"),
+        On::Narrow => format!("{} {call}", on.name()),
+        On::Side(_) if call != "newpair" => format!("@{call}"),
+        _ => call.into(),
+    }
+}
+
+/// A call of either width.
+fn taken<T: Float>(filter: &mut Filter<T>, call: &Call<T>) -> Result<Told, String> {
+    match call {
+        Call::New(n, x, p, q, par) => {
+            let made = Filter::new(*n, x, p, q, *par);
+            renewed("new", filter, made, Filter::empty())
+        }
+        Call::On(call) => {
+            let state = own_state(filter, call.name());
+            let told = on_filter(filter, call)?;
+            let more = if told.more.is_empty() { state } else { told.more };
+            Ok(Told { more, ..told })
+        }
+        Call::Point(n, k, list) => told("point", filter::point(*n, *k, list), |part| {
+            let (start, length) = part.unwrap_or((0, 0));
+            format!(" {start} {length}{}", bits(&list[start..start + length]))
+        }),
+        Call::Wrap(d, h) => told("wrap", filter::wrap(*d, *h), |wrapped| bits(&[wrapped.unwrap_or(T::ZERO)])),
+        Call::Root(a) => told("root", filter::root(*a), |root| bits(root.as_slice())),
+    }
+}
+
+/// What a call that wasn't refused before has searched; but for single numbers.
+fn searched<T: Float>(filter: &Filter<T>, call: &Call<T>) -> Search<T> {
+    match call {
+        Call::New(n, x, p, q, par) => Search::of_new(*n as usize, &[(x, p)], q, *par),
+        Call::On(call) => searched_on(filter, call),
+        _ => Search::default(),
+    }
+}
+
+fn searched_on<T: Float>(filter: &Filter<T>, call: &OnFilter<T>) -> Search<T> {
+    let n = filter.n;
+    match call {
+        OnFilter::Set(Setting::X(x)) => Search::of(Slice::State, x, n),
+        OnFilter::Set(Setting::P(p)) => Search::of(Slice::Covariance, p, n * n),
+        OnFilter::Set(Setting::Q(q)) => Search::of(Slice::Noise, q, n * n),
+        OnFilter::Set(Setting::Par(par)) => Search::of(Slice::Lone, &par.numbers(), 3),
+        OnFilter::CloseP(propagated) => Search::of(Slice::Points, propagated, list_length(n)),
+        OnFilter::CloseC(m, z, r, kinds, observed) => Search::of_close(n, *m as usize, z, r, kinds, observed),
+        OnFilter::CloseF(m, z, r, observed) => {
+            let turn = filter.kinds.iter().any(|kind| kind.half().is_some());
+            Search::of_flat_close(n, *m as usize, z, r, turn, observed)
+        }
+        _ => Search::default(),
     }
 }
 
@@ -224,14 +281,14 @@ fn renewed<A>(call: &str, current: &mut A, made: Result<A, Trouble>, empty: A) -
     bare(call, outcome)
 }
 
-/// A call on a filter, the solo one or a side; but for changes of a pair's sheet.
-fn on_filter(filter: &mut Filter, call: &OnFilter) -> Result<Told, String> {
+/// A call on a filter, be it a side; but for changes of a pair's sheet.
+fn on_filter<T: Float>(filter: &mut Filter<T>, call: &OnFilter<T>) -> Result<Told, String> {
     let name = call.name();
     match call {
         OnFilter::Set(setting) => bare(name, setting.put(filter)),
         OnFilter::Abandon => bare(name, filter.abandon()),
         OnFilter::Lent(which, length) => {
-            let mut buffer: Vec<f64> = (0..*length).map(|i| f64::from_bits(0x4330_0000_0000_0000 + i)).collect();
+            let mut buffer: Vec<T> = (0..*length).map(|i| T::of_bits(T::LENT_BITS + i)).collect();
             let outcome = match which {
                 Lent::OpenP => filter.open_prediction(&mut buffer),
                 Lent::OpenC => filter.open_correction(&mut buffer),
@@ -276,7 +333,7 @@ fn told<A>(call: &str, outcome: Result<A, Trouble>, rest: impl FnOnce(Option<A>)
 }
 
 /// An answer to a close: x and P where it is accepted. Of a 3 the table tells what was open.
-fn closed(call: &str, outcome: Result<(), Trouble>, filter: &Filter, m: String) -> Result<Told, String> {
+fn closed<T: Float>(call: &str, outcome: Result<(), Trouble>, filter: &Filter<T>, m: String) -> Result<Told, String> {
     let told = told(call, outcome, |done| done.map(|()| format!(" x{} P{}", bits(&filter.x), bits(&filter.p))).unwrap_or_default())?;
     let more = match told.number {
         0 => format!("n={}{m}", filter.n),
@@ -287,20 +344,20 @@ fn closed(call: &str, outcome: Result<(), Trouble>, filter: &Filter, m: String) 
 }
 
 /// The bits of a number; every NaN is written alike.
-pub fn bits_of(number: f64) -> u64 {
+pub fn bits_of<T: Float>(number: T) -> u64 {
     if number.is_nan() {
-        0x7ff8_0000_0000_0000
+        T::NAN_BITS
     } else {
-        number.to_bits()
+        number.bits()
     }
 }
 
 /// Each number's bits with a blank before it.
-pub fn bits(numbers: &[f64]) -> String {
-    numbers.iter().map(|number| format!(" {:016x}", bits_of(*number))).collect()
+pub fn bits<T: Float>(numbers: &[T]) -> String {
+    numbers.iter().map(|number| format!(" {:01$x}", bits_of(*number), T::HEX)).collect()
 }
 
-fn dumped(filter: &Filter) -> String {
+fn dumped<T: Float>(filter: &Filter<T>) -> String {
     let kinds: String = filter
         .kinds
         .iter()
@@ -341,15 +398,15 @@ enum Lent {
     Points,
 }
 
-enum Setting {
-    X(Vec<f64>),
-    P(Vec<f64>),
-    Q(Vec<f64>),
-    Par(Params),
-    Kind(u64, Kind),
+enum Setting<T> {
+    X(Vec<T>),
+    P(Vec<T>),
+    Q(Vec<T>),
+    Par(Params<T>),
+    Kind(u64, Kind<T>),
 }
 
-impl Setting {
+impl<T: Float> Setting<T> {
     fn name(&self) -> &'static str {
         match self {
             Setting::X(_) => "setx",
@@ -360,7 +417,7 @@ impl Setting {
         }
     }
 
-    fn put(&self, filter: &mut Filter) -> Result<(), Trouble> {
+    fn put(&self, filter: &mut Filter<T>) -> Result<(), Trouble> {
         match self {
             Setting::X(x) => filter.set_x(x),
             Setting::P(p) => filter.set_p(p),
@@ -371,7 +428,7 @@ impl Setting {
     }
 
     /// What it would be refused by on a filter like this one with nothing open.
-    fn fault(&self, filter: &Filter) -> Option<u8> {
+    fn fault(&self, filter: &Filter<T>) -> Option<u8> {
         let new = Filter::new(filter.n as u64, &filter.x, &filter.p, &filter.q, filter.par);
         match new.and_then(|mut new| self.put(&mut new)) {
             Err(Trouble::Refused(refusal)) => Some(refusal.number()),
@@ -380,20 +437,20 @@ impl Setting {
     }
 }
 
-/// Calls on a filter, be it the solo filter or a side.
-enum OnFilter {
-    Set(Setting),
+/// Calls on a filter, be it a side.
+enum OnFilter<T> {
+    Set(Setting<T>),
     Abandon,
     Lent(Lent, u64),
-    CloseP(Vec<f64>),
-    CloseC(u64, Vec<f64>, Vec<f64>, [Kind; 4], Vec<f64>),
-    CloseF(u64, Vec<f64>, Vec<f64>, Vec<f64>),
+    CloseP(Vec<T>),
+    CloseC(u64, Vec<T>, Vec<T>, [Kind<T>; 4], Vec<T>),
+    CloseF(u64, Vec<T>, Vec<T>, Vec<T>),
     ReadPar,
     ReadStale,
     Dump,
 }
 
-impl OnFilter {
+impl<T: Float> OnFilter<T> {
     fn name(&self) -> &'static str {
         match self {
             OnFilter::Set(setting) => setting.name(),
@@ -414,30 +471,35 @@ impl OnFilter {
     }
 }
 
-enum Call {
-    New(u64, Vec<f64>, Vec<f64>, Vec<f64>, Params),
-    NewPair(u64, Vec<f64>, Vec<f64>, Vec<f64>, Vec<f64>, Vec<f64>, Params),
-    On(Option<Side>, OnFilter),
-    Point(u64, u64, Vec<f64>),
-    Wrap(f64, f64),
-    Root(f64),
+/// The calls that there are for each width by itself.
+enum Call<T> {
+    New(u64, Vec<T>, Vec<T>, Vec<T>, Params<T>),
+    On(OnFilter<T>),
+    Point(u64, u64, Vec<T>),
+    Wrap(T, T),
+    Root(T),
+}
+
+/// A line that is a call.
+enum Line {
+    Solo(Call<f64>),
+    Narrow(Call<f32>),
+    NewPair(u64, Vec<f64>, Vec<f64>, Vec<f64>, Vec<f64>, Vec<f64>, Params<f64>),
+    Side(Side, OnFilter<f64>),
 }
 
 /// Reads a line whole before anything is done.
-fn call(word: &[u8], mut tokens: Tokens) -> Result<Call, Bad> {
+fn read(word: &[u8], mut tokens: Tokens) -> Result<Line, Bad> {
     let t = &mut tokens;
-    let call = match word {
-        b"new" => Call::New(t.size()?, t.list()?, t.list()?, t.list()?, t.params()?),
-        b"newpair" => Call::NewPair(t.size()?, t.list()?, t.list()?, t.list()?, t.list()?, t.list()?, t.params()?),
-        b"@1" => Call::On(Some(Side::One), t.on_filter()?),
-        b"@2" => Call::On(Some(Side::Two), t.on_filter()?),
-        b"point" => Call::Point(t.size()?, t.size()?, t.list()?),
-        b"wrap" => Call::Wrap(t.float()?, t.float()?),
-        b"root" => Call::Root(t.float()?),
-        _ => Call::On(None, t.on_filter_named(word)?),
+    let line = match word {
+        b"newpair" => Line::NewPair(t.size()?, t.list()?, t.list()?, t.list()?, t.list()?, t.list()?, t.params()?),
+        b"@1" => Line::Side(Side::One, t.named(Tokens::on_filter)?),
+        b"@2" => Line::Side(Side::Two, t.named(Tokens::on_filter)?),
+        b"@w" => Line::Narrow(t.named(Tokens::narrow)?),
+        _ => Line::Solo(t.call(word)?),
     };
     match tokens.next() {
-        None => Ok(call),
+        None => Ok(line),
         Some(_) => Err(Bad),
     }
 }
@@ -462,13 +524,31 @@ impl<'a> Tokens<'a> {
         Some(&rest[..end])
     }
 
-    /// A call that a filter takes, with its name still to come.
-    fn on_filter(&mut self) -> Result<OnFilter, Bad> {
+    /// A call whose name is still to come.
+    fn named<A>(&mut self, call: impl Fn(&mut Self, &[u8]) -> Result<A, Bad>) -> Result<A, Bad> {
         let word = self.next().ok_or(Bad)?;
-        self.on_filter_named(word)
+        call(self, word)
     }
 
-    fn on_filter_named(&mut self, word: &[u8]) -> Result<OnFilter, Bad> {
+    /// A call of the f32 filter, which has no flat close.
+    fn narrow(&mut self, word: &[u8]) -> Result<Call<f32>, Bad> {
+        match word {
+            b"closef" => Err(Bad),
+            _ => self.call(word),
+        }
+    }
+
+    fn call<T: Float>(&mut self, word: &[u8]) -> Result<Call<T>, Bad> {
+        Ok(match word {
+            b"new" => Call::New(self.size()?, self.list()?, self.list()?, self.list()?, self.params()?),
+            b"point" => Call::Point(self.size()?, self.size()?, self.list()?),
+            b"wrap" => Call::Wrap(self.float()?, self.float()?),
+            b"root" => Call::Root(self.float()?),
+            _ => Call::On(self.on_filter(word)?),
+        })
+    }
+
+    fn on_filter<T: Float>(&mut self, word: &[u8]) -> Result<OnFilter<T>, Bad> {
         Ok(match word {
             b"setx" => OnFilter::Set(Setting::X(self.list()?)),
             b"setp" => OnFilter::Set(Setting::P(self.list()?)),
@@ -520,10 +600,10 @@ impl<'a> Tokens<'a> {
         Ok(length)
     }
 
-    /// 16 hex digits.
-    fn float(&mut self) -> Result<f64, Bad> {
+    /// As many hex digits as the width has.
+    fn float<T: Float>(&mut self) -> Result<T, Bad> {
         let token = self.next().ok_or(Bad)?;
-        if token.len() != 16 {
+        if token.len() != T::HEX {
             return Err(Bad);
         }
         let mut bits: u64 = 0;
@@ -531,19 +611,19 @@ impl<'a> Tokens<'a> {
             let digit = (*b as char).to_digit(16).ok_or(Bad)?;
             bits = bits << 4 | u64::from(digit);
         }
-        Ok(f64::from_bits(bits))
+        Ok(T::of_bits(bits))
     }
 
-    fn list(&mut self) -> Result<Vec<f64>, Bad> {
+    fn list<T: Float>(&mut self) -> Result<Vec<T>, Bad> {
         let length = self.length()?;
         (0..length).map(|_| self.float()).collect()
     }
 
-    fn params(&mut self) -> Result<Params, Bad> {
+    fn params<T: Float>(&mut self) -> Result<Params<T>, Bad> {
         Ok(Params { alpha: self.float()?, beta: self.float()?, kappa: self.float()? })
     }
 
-    fn kind(&mut self) -> Result<Kind, Bad> {
+    fn kind<T: Float>(&mut self) -> Result<Kind<T>, Bad> {
         match self.next() {
             Some(b"p") => Ok(Kind::Plain),
             Some(b"t") => Ok(Kind::Turn(self.float()?)),

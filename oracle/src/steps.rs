@@ -1,50 +1,56 @@
 //! The steps of documents 01 and 02 worked out a second time, plainly and with their checks for 7, 8 and 9 in running order.
 //! Shares no code with the leaves that lie under the published Rust, so that the two can be held against each other.
 
+use crate::float::Float;
 use crate::kinds::Kind;
 use crate::refusal::Refusal;
 
 #[derive(Clone, Copy, Debug, Default, PartialEq)]
-pub struct Params {
-    pub alpha: f64,
-    pub beta: f64,
-    pub kappa: f64,
+pub struct Params<T> {
+    pub alpha: T,
+    pub beta: T,
+    pub kappa: T,
 }
 
-impl Params {
-    pub fn numbers(self) -> [f64; 3] {
+impl<T> Params<T> {
+    pub fn numbers(self) -> [T; 3] {
         [self.alpha, self.beta, self.kappa]
     }
 }
 
-pub struct Weights {
+pub struct Weights<T> {
     /// N = n + lambda.
-    pub total: f64,
-    pub w0m: f64,
-    pub w0c: f64,
-    pub wi: f64,
+    pub total: T,
+    pub w0m: T,
+    pub w0c: T,
+    pub wi: T,
 }
 
-impl Weights {
-    pub fn of(n: usize, par: Params) -> Weights {
-        let n = n as f64;
+impl<T: Float> Weights<T> {
+    pub fn of(n: usize, par: Params<T>) -> Weights<T> {
+        let (n, two) = (T::of_size(n), T::of_size(2));
         let lambda = par.alpha * par.alpha * (n + par.kappa) - n;
         let total = n + lambda;
-        Weights { total, w0m: lambda / total, w0c: lambda / total + (1.0 - par.alpha * par.alpha + par.beta), wi: 1.0 / (2.0 * total) }
+        Weights {
+            total,
+            w0m: lambda / total,
+            w0c: lambda / total + (T::ONE - par.alpha * par.alpha + par.beta),
+            wi: T::ONE / (two * total),
+        }
     }
 
     /// What refusal 6 asks of parameters.
     pub fn pass(&self) -> bool {
-        self.total.is_finite() && self.total > 0.0 && self.w0m.is_finite() && self.w0c.is_finite() && self.wi.is_finite()
+        self.total.is_finite() && self.total > T::ZERO && self.w0m.is_finite() && self.w0c.is_finite() && self.wi.is_finite()
     }
 }
 
-pub fn all_finite(numbers: &[f64]) -> bool {
+pub fn all_finite<T: Float>(numbers: &[T]) -> bool {
     numbers.iter().all(|number| number.is_finite())
 }
 
 /// The numbers as they are, or 9 in this step's name.
-fn checked(numbers: Vec<f64>, step: &'static str) -> Result<Vec<f64>, Refusal> {
+fn checked<T: Float>(numbers: Vec<T>, step: &'static str) -> Result<Vec<T>, Refusal> {
     if all_finite(&numbers) {
         Ok(numbers)
     } else {
@@ -53,8 +59,8 @@ fn checked(numbers: Vec<f64>, step: &'static str) -> Result<Vec<f64>, Refusal> {
 }
 
 /// d×d factor of a, reading its lower triangle, column after column; +0 above the diagonal. A bad pivot is refused by its row.
-fn factor(a: &[f64], d: usize, pivot: fn(usize) -> Refusal, entry: &'static str) -> Result<Vec<f64>, Refusal> {
-    let mut l = vec![0.0; d * d];
+fn factor<T: Float>(a: &[T], d: usize, pivot: fn(usize) -> Refusal, entry: &'static str) -> Result<Vec<T>, Refusal> {
+    let mut l = vec![T::ZERO; d * d];
     for j in 0..d {
         for i in j..d {
             let mut rest = a[i * d + j];
@@ -62,10 +68,10 @@ fn factor(a: &[f64], d: usize, pivot: fn(usize) -> Refusal, entry: &'static str)
                 rest -= l[i * d + k] * l[j * d + k];
             }
             if i == j {
-                if !rest.is_finite() || rest <= 0.0 {
+                if !rest.is_finite() || rest <= T::ZERO {
                     return Err(pivot(j));
                 }
-                l[j * d + j] = rest.sqrt();
+                l[j * d + j] = rest.root();
             } else {
                 l[i * d + j] = rest / l[j * d + j];
                 if !l[i * d + j].is_finite() {
@@ -78,15 +84,15 @@ fn factor(a: &[f64], d: usize, pivot: fn(usize) -> Refusal, entry: &'static str)
 }
 
 /// The inverse from the factor, column by column.
-fn inverse(l: &[f64], d: usize) -> Vec<f64> {
-    let mut inverse = vec![0.0; d * d];
+fn inverse<T: Float>(l: &[T], d: usize) -> Vec<T> {
+    let mut inverse = vec![T::ZERO; d * d];
     for c in 0..d {
-        let mut u = vec![0.0; d];
+        let mut u = vec![T::ZERO; d];
         for i in 0..d {
-            let start = if i == c { 1.0 } else { 0.0 };
+            let start = if i == c { T::ONE } else { T::ZERO };
             u[i] = (0..i).fold(start, |rest, k| rest - l[i * d + k] * u[k]) / l[i * d + i];
         }
-        let mut v = vec![0.0; d];
+        let mut v = vec![T::ZERO; d];
         for i in (0..d).rev() {
             v[i] = (i + 1..d).fold(u[i], |rest, k| rest - l[k * d + i] * v[k]) / l[i * d + i];
         }
@@ -98,20 +104,20 @@ fn inverse(l: &[f64], d: usize) -> Vec<f64> {
 }
 
 /// a (rows×d) times b (columns×d) transposed.
-fn times_transposed(a: &[f64], b: &[f64], rows: usize, columns: usize, d: usize) -> Vec<f64> {
+fn times_transposed<T: Float>(a: &[T], b: &[T], rows: usize, columns: usize, d: usize) -> Vec<T> {
     let mut out = Vec::with_capacity(rows * columns);
     for i in 0..rows {
         for j in 0..columns {
-            out.push((0..d).fold(0.0, |sum, k| sum + a[i * d + k] * b[j * d + k]));
+            out.push((0..d).fold(T::ZERO, |sum, k| sum + a[i * d + k] * b[j * d + k]));
         }
     }
     out
 }
 
 /// The 2n+1 points, point after point.
-pub fn draw(n: usize, x: &[f64], p: &[f64], total: f64) -> Result<Vec<f64>, Refusal> {
+pub fn draw<T: Float>(n: usize, x: &[T], p: &[T], total: T) -> Result<Vec<T>, Refusal> {
     let l = factor(p, n, Refusal::Pivot, "P's factor entry")?;
-    let s = total.sqrt();
+    let s = total.root();
     let mut points = x[..n].to_vec();
     for j in 0..n {
         points.extend((0..n).map(|i| x[i] + s * l[i * n + j]));
@@ -123,26 +129,26 @@ pub fn draw(n: usize, x: &[f64], p: &[f64], total: f64) -> Result<Vec<f64>, Refu
 }
 
 /// The anchored mean of points of d numbers each.
-fn mean(points: &[f64], d: usize, kinds: &[Kind], w0m: f64, wi: f64) -> Vec<f64> {
+fn mean<T: Float>(points: &[T], d: usize, kinds: &[Kind<T>], w0m: T, wi: T) -> Vec<T> {
     let count = points.len() / d;
     let weight_sum = (1..count).fold(w0m, |sum, _| sum + wi);
     (0..d)
         .map(|i| {
-            let offset = (1..count).fold(0.0, |sum, k| sum + wi * kinds[i].fixed(points[k * d + i] - points[i]));
+            let offset = (1..count).fold(T::ZERO, |sum, k| sum + wi * kinds[i].fixed(points[k * d + i] - points[i]));
             weight_sum * points[i] + offset
         })
         .collect()
 }
 
 /// Points minus mean, through the kinds; point after point.
-fn deviations(points: &[f64], d: usize, kinds: &[Kind], mean: &[f64]) -> Vec<f64> {
-    points.iter().enumerate().map(|(at, number)| kinds[at % d].fixed(number - mean[at % d])).collect()
+fn deviations<T: Float>(points: &[T], d: usize, kinds: &[Kind<T>], mean: &[T]) -> Vec<T> {
+    points.iter().enumerate().map(|(at, number)| kinds[at % d].fixed(*number - mean[at % d])).collect()
 }
 
 /// Sum over the points of w·a[i]·b[j], rows×columns.
-fn spread(a: &[f64], b: &[f64], rows: usize, columns: usize, w0c: f64, wi: f64) -> Vec<f64> {
+fn spread<T: Float>(a: &[T], b: &[T], rows: usize, columns: usize, w0c: T, wi: T) -> Vec<T> {
     let count = a.len() / rows;
-    let mut out = vec![0.0; rows * columns];
+    let mut out = vec![T::ZERO; rows * columns];
     for i in 0..rows {
         for j in 0..columns {
             for k in 0..count {
@@ -154,8 +160,8 @@ fn spread(a: &[f64], b: &[f64], rows: usize, columns: usize, w0c: f64, wi: f64) 
     out
 }
 
-fn added(a: &[f64], b: &[f64]) -> Vec<f64> {
-    a.iter().zip(b).map(|(a, b)| a + b).collect()
+fn added<T: Float>(a: &[T], b: &[T]) -> Vec<T> {
+    a.iter().zip(b).map(|(a, b)| *a + *b).collect()
 }
 
 /// How a correction averages: by document 01's weights, or flat as request A1 has it, where a sum is divided by how many points there are.
@@ -166,31 +172,31 @@ pub enum Average {
 }
 
 /// The flat mean of points of d numbers each.
-fn flat_mean(points: &[f64], d: usize) -> Vec<f64> {
+fn flat_mean<T: Float>(points: &[T], d: usize) -> Vec<T> {
     let count = points.len() / d;
-    (0..d).map(|i| (0..count).fold(0.0, |sum, k| sum + points[k * d + i]) / count as f64).collect()
+    (0..d).map(|i| (0..count).fold(T::ZERO, |sum, k| sum + points[k * d + i]) / T::of_size(count)).collect()
 }
 
 /// Sum over the points of a[i]·b[j], rows×columns; each entry is summed, then divided.
-fn flat_spread(a: &[f64], b: &[f64], rows: usize, columns: usize) -> Vec<f64> {
+fn flat_spread<T: Float>(a: &[T], b: &[T], rows: usize, columns: usize) -> Vec<T> {
     let count = a.len() / rows;
-    let entry = |i: usize, j: usize| (0..count).fold(0.0, |sum, k| sum + a[k * rows + i] * b[k * columns + j]) / count as f64;
+    let entry = |i: usize, j: usize| (0..count).fold(T::ZERO, |sum, k| sum + a[k * rows + i] * b[k * columns + j]) / T::of_size(count);
     (0..rows).flat_map(|i| (0..columns).map(move |j| (i, j))).map(|(i, j)| entry(i, j)).collect()
 }
 
 /// What a close of a prediction works from.
-pub struct Prediction<'a> {
+pub struct Prediction<'a, T> {
     pub n: usize,
-    pub q: &'a [f64],
-    pub kinds: &'a [Kind],
-    pub w0m: f64,
-    pub w0c: f64,
-    pub wi: f64,
-    pub propagated: &'a [f64],
+    pub q: &'a [T],
+    pub kinds: &'a [Kind<T>],
+    pub w0m: T,
+    pub w0c: T,
+    pub wi: T,
+    pub propagated: &'a [T],
 }
 
 /// x and P after a prediction.
-pub fn predict(given: &Prediction) -> Result<(Vec<f64>, Vec<f64>), Refusal> {
+pub fn predict<T: Float>(given: &Prediction<T>) -> Result<(Vec<T>, Vec<T>), Refusal> {
     let n = given.n;
     let x = checked(mean(given.propagated, n, given.kinds, given.w0m, given.wi), "mean")?;
     let dx = deviations(given.propagated, n, given.kinds, &x);
@@ -199,32 +205,32 @@ pub fn predict(given: &Prediction) -> Result<(Vec<f64>, Vec<f64>), Refusal> {
 }
 
 /// What a close of a correction works from. The flat average reads no weights, and its kinds are all plain.
-pub struct Correction<'a> {
+pub struct Correction<'a, T> {
     pub average: Average,
     pub n: usize,
     pub m: usize,
-    pub x: &'a [f64],
-    pub p: &'a [f64],
-    pub kinds: &'a [Kind],
-    pub w0m: f64,
-    pub w0c: f64,
-    pub wi: f64,
-    pub points: &'a [f64],
-    pub z: &'a [f64],
-    pub r: &'a [f64],
-    pub measured: &'a [Kind],
-    pub observed: &'a [f64],
+    pub x: &'a [T],
+    pub p: &'a [T],
+    pub kinds: &'a [Kind<T>],
+    pub w0m: T,
+    pub w0c: T,
+    pub wi: T,
+    pub points: &'a [T],
+    pub z: &'a [T],
+    pub r: &'a [T],
+    pub measured: &'a [Kind<T>],
+    pub observed: &'a [T],
 }
 
-impl Correction<'_> {
-    fn mean(&self, points: &[f64], d: usize, kinds: &[Kind]) -> Vec<f64> {
+impl<T: Float> Correction<'_, T> {
+    fn mean(&self, points: &[T], d: usize, kinds: &[Kind<T>]) -> Vec<T> {
         match self.average {
             Average::Weighted => mean(points, d, kinds, self.w0m, self.wi),
             Average::Flat => flat_mean(points, d),
         }
     }
 
-    fn spread(&self, a: &[f64], b: &[f64], rows: usize, columns: usize) -> Vec<f64> {
+    fn spread(&self, a: &[T], b: &[T], rows: usize, columns: usize) -> Vec<T> {
         match self.average {
             Average::Weighted => spread(a, b, rows, columns, self.w0c, self.wi),
             Average::Flat => flat_spread(a, b, rows, columns),
@@ -234,19 +240,19 @@ impl Correction<'_> {
 
 /// x and P after a correction, and what was worked out on the way, under document 01's letters.
 #[derive(Clone, Debug)]
-pub struct Corrected {
-    pub x: Vec<f64>,
-    pub p: Vec<f64>,
-    pub c: Vec<f64>,
-    pub l: Vec<f64>,
-    pub v: Vec<f64>,
-    pub k: Vec<f64>,
-    pub y: Vec<f64>,
-    pub t: Vec<f64>,
+pub struct Corrected<T> {
+    pub x: Vec<T>,
+    pub p: Vec<T>,
+    pub c: Vec<T>,
+    pub l: Vec<T>,
+    pub v: Vec<T>,
+    pub k: Vec<T>,
+    pub y: Vec<T>,
+    pub t: Vec<T>,
 }
 
 /// Both closes of a correction. They differ in their means and sums, not in the order of their steps; from C on they are one.
-pub fn correct(given: &Correction) -> Result<Corrected, Refusal> {
+pub fn correct<T: Float>(given: &Correction<T>) -> Result<Corrected<T>, Refusal> {
     let (n, m) = (given.n, given.m);
     let z_mean = checked(given.mean(given.observed, m, given.measured), "z mean")?;
     let dz = deviations(given.observed, m, given.measured, &z_mean);
@@ -258,8 +264,8 @@ pub fn correct(given: &Correction) -> Result<Corrected, Refusal> {
     let v = checked(inverse(&l, m), "inverse")?;
     let k = checked(times_transposed(&c, &v, n, m, m), "gain")?;
     let y = checked((0..m).map(|j| given.measured[j].fixed(given.z[j] - z_mean[j])).collect(), "y")?;
-    let x = checked((0..n).map(|i| given.x[i] + (0..m).fold(0.0, |sum, j| sum + k[i * m + j] * y[j])).collect(), "x")?;
+    let x = checked((0..n).map(|i| given.x[i] + (0..m).fold(T::ZERO, |sum, j| sum + k[i * m + j] * y[j])).collect(), "x")?;
     let t = times_transposed(&c, &k, n, n, m);
-    let p = checked(given.p.iter().zip(&t).map(|(p, t)| p - t).collect(), "P")?;
+    let p = checked(given.p.iter().zip(&t).map(|(p, t)| *p - *t).collect(), "P")?;
     Ok(Corrected { x, p, c, l, v, k, y, t })
 }

@@ -1,4 +1,4 @@
-//! Document 01's cases, the flat close, settings, pairs and places of document 02's A1, A3, A4 and A5 and the example of docs/SCRIPT.md, held to answers written by hand.
+//! Document 01's cases, the flat close, settings, pairs, places and the f32 filter of document 02's A1 and A3 to A6 and the example of docs/SCRIPT.md, held to answers written by hand.
 
 use oracle::script::Reader;
 
@@ -73,4 +73,47 @@ fn lines() {
     }
     assert_eq!(last("@1 new 0 0 0 0 0000000000000000 0000000000000000 0000000000000000"), bad);
     assert_eq!(last("point 1 0 3 7FF0000000000001 FFF0000000000000 8000000000000000"), Some("0 0 0 1 7ff8000000000000".into()));
+}
+
+/// What is a line of the f32 filter: its calls, and numbers of 8 digits.
+#[test]
+fn narrow_lines() {
+    let long = |length: usize| format!("@w root 40800000{}", " ".repeat(length - 16));
+    let last = |line: &str| answers(line).pop();
+    let two = Some("0 0 40000000".to_string());
+    let bad = Some("bad".to_string());
+    assert_eq!(last(&long(16_384)), two);
+    assert_eq!(last(&long(16_385)), bad);
+    assert_eq!(last("\t@w \t root 40800000#4"), two);
+    assert_eq!(last("@w readx 2"), Some("1 0 2 4b000000 4b000001".into()));
+    assert_eq!(last("@w readx 512").map(|answer| answer.len()), Some("1 0 512".len() + 512 * 9));
+    assert_eq!(last("@w root 7F800001"), Some("56 0".into()));
+    assert_eq!(last("@w point 1 0 3 7F800001 FF800000 80000000"), Some("0 0 0 1 7fc00000".into()));
+    assert_eq!(last("@w new 0 0 0 0 00000000 00000000 00000000"), Some("1 0".into()));
+    assert_eq!(last("@w abandon"), Some("3 0".into()));
+    for line in [
+        "@w",
+        "@w # dump",
+        "@wdump",
+        "@ w dump",
+        "@W dump",
+        "@w @w dump",
+        "@w @1 dump",
+        "@1 @w dump",
+        "@w readx 513",
+        "@w abandon now",
+        "@w closef 1 0 0 0",
+        "@w newpair 0 0 0 0 0 0 00000000 00000000 00000000",
+        "@w root 4080000",
+        "@w root 408000000",
+        "@w root 4010000000000000",
+        "@w wrap 43af0000 4066800000000000",
+        "@w new 0 0 0 0 00000000 00000000 0000000000000000",
+        "@w setkind 0 t 4066800000000000",
+        "@1 setx 1 40800000",
+        "root 40800000",
+        "setpar 3f800000 00000000 00000000",
+    ] {
+        assert_eq!(last(line), bad, "{line}");
+    }
 }

@@ -10,7 +10,7 @@ use oracle::published::{Held, Measurement, Published};
 use oracle::script::{bits, bits_of};
 use oracle::steps::{Average, Params};
 
-const C1: Params = Params { alpha: 1.0, beta: 0.0, kappa: 0.0 };
+const C1: Params<f64> = Params { alpha: 1.0, beta: 0.0, kappa: 0.0 };
 const INFINITE: f64 = f64::INFINITY;
 const NAN: f64 = f64::NAN;
 
@@ -37,26 +37,26 @@ fn row(number: &str, input: &str, given: String) {
     println!("{number:>4}  {input:<62}  {given}");
 }
 
-fn x_and_p(held: &dyn Published) -> String {
+fn x_and_p(held: &dyn Published<f64>) -> String {
     format!("x={:?} P={:?}", held.x(), held.p())
 }
 
-fn c9() -> Held<1, 3> {
+fn c9() -> Held<f64, 1, 3> {
     one(2.0, 4.0, C1)
 }
 
-fn one(x: f64, p: f64, par: Params) -> Held<1, 3> {
+fn one(x: f64, p: f64, par: Params<f64>) -> Held<f64, 1, 3> {
     Held::new(&[x], &[p], &[1.0], par)
 }
 
 /// After a prediction with the points as they were drawn.
-fn unmoved<const N: usize, const COUNT: usize>(mut held: Held<N, COUNT>) -> Held<N, COUNT> {
+fn unmoved<const N: usize, const COUNT: usize>(mut held: Held<f64, N, COUNT>) -> Held<f64, N, COUNT> {
     held.predict_by(|_| {});
     held
 }
 
 /// A correction of one state by one plain measurement.
-fn correct(held: &mut Held<1, 3>, average: Average, z: f64, r: f64, observed: [f64; 3]) -> String {
+fn correct(held: &mut Held<f64, 1, 3>, average: Average, z: f64, r: f64, observed: [f64; 3]) -> String {
     held.correct(average, &Measurement { m: 1, z: &[z], r: &[r], kinds: &[Kind::Plain], observed: &observed });
     x_and_p(held)
 }
@@ -69,9 +69,9 @@ fn corrected(z: f64, r: f64, observed: [f64; 3]) -> String {
 fn sizes() {
     row("", "nothing refused: C9", x_and_p(&unmoved(c9())));
     row("", "nothing refused: C10", corrected(3.0, 12.0, [2.0, 4.0, 0.0]));
-    row("1", "n = 0 (no numbers at all)", x_and_p(&unmoved(Held::<0, 1>::new(&[], &[], &[], C1))));
+    row("1", "n = 0 (no numbers at all)", x_and_p(&unmoved(Held::<f64, 0, 1>::new(&[], &[], &[], C1))));
     let identity: Vec<f64> = (0..81).map(|at| if at % 10 == 0 { 1.0 } else { 0.0 }).collect();
-    let nine = unmoved(Held::<9, 19>::new(&[0.0; 9], &identity, &[0.0; 81], C1));
+    let nine = unmoved(Held::<f64, 9, 19>::new(&[0.0; 9], &identity, &[0.0; 81], C1));
     row("1", "n = 9, x = 0, P = 1 on the diagonal, Q = 0", format!("runs; P[0][0]={:?}", nine.p()[0]));
     let mut held = unmoved(c9());
     held.correct_of::<0>(Average::Weighted, &Measurement { m: 0, z: &[], r: &[], kinds: &[], observed: &[] });
@@ -81,7 +81,7 @@ fn sizes() {
     let measurement = Measurement { m: 5, z: &[3.0; 5], r: &five, kinds: &[Kind::Plain; 5], observed: &[0.0; 15] };
     held.correct_of::<5>(Average::Weighted, &measurement);
     row("1", "m = 5, z = 3, R = 12 on the diagonal, zeros observed", format!("runs; {}", x_and_p(&held)));
-    let odd = unmoved(Held::<1, 5>::new(&[2.0], &[4.0], &[1.0], C1));
+    let odd = unmoved(Held::<f64, 1, 5>::new(&[2.0], &[4.0], &[1.0], C1));
     row("1", "five points for one state (the type takes any count)", format!("{}, points {:?}", x_and_p(&odd), odd.points()));
     row("2", "a short slice", "sizes are types: none can be short".into());
 }
@@ -99,7 +99,7 @@ fn numbers() {
     row("51", "x = NaN", x_and_p(&unmoved(one(NAN, 4.0, C1))));
     row("52", "P = NaN (no pivot: the points are x -+ NaN)", x_and_p(&unmoved(one(2.0, NAN, C1))));
     row("52", "P = infinity (the factor is left as it stands)", x_and_p(&unmoved(one(2.0, INFINITE, C1))));
-    row("53", "Q = NaN", x_and_p(&unmoved(Held::<1, 3>::new(&[2.0], &[4.0], &[NAN], C1))));
+    row("53", "Q = NaN", x_and_p(&unmoved(Held::<f64, 1, 3>::new(&[2.0], &[4.0], &[NAN], C1))));
     row("56", "kappa = NaN", x_and_p(&unmoved(one(2.0, 4.0, Params { kappa: NAN, ..C1 }))));
     row("55", "z = NaN: P as if all were well", corrected(NAN, 12.0, [2.0, 4.0, 0.0]));
     row("55", "z = infinity: P as if all were well", corrected(INFINITE, 12.0, [2.0, 4.0, 0.0]));
@@ -121,7 +121,7 @@ fn parameters() {
 fn pivots() {
     row("7", "P = 0: predicts; all points are x", x_and_p(&unmoved(one(2.0, 0.0, C1))));
     row("7", "P = -4: predicts with -4 as the factor, P becomes 16 + Q", x_and_p(&unmoved(one(2.0, -4.0, C1))));
-    let c8 = unmoved(Held::<2, 5>::new(&[0.0; 2], &[1.0, 2.0, 2.0, 1.0], &[0.0; 4], C1));
+    let c8 = unmoved(Held::<f64, 2, 5>::new(&[0.0; 2], &[1.0, 2.0, 2.0, 1.0], &[0.0; 4], C1));
     row("7", "C8: P = (1,2),(2,1), x = 0, Q = 0: half a factor is used", x_and_p(&c8));
     row("8", "S = 0: R = 0, observed 2, 2, 2", corrected(3.0, 0.0, [2.0, 2.0, 2.0]));
     row("8", "S = -4: R = -8, observed 2, 4, 0: used as if S were 16", corrected(3.0, -8.0, [2.0, 4.0, 0.0]));
@@ -181,7 +181,7 @@ fn settings() {
     setting("Q = 9", |rust| rust.set_q(&[9.0]), |filter| filter.set_q(&[9.0]));
 }
 
-fn setting(name: &str, rust: impl FnOnce(&mut Held<1, 3>), ours: impl FnOnce(&mut Filter) -> Result<(), Trouble>) {
+fn setting(name: &str, rust: impl FnOnce(&mut Held<f64, 1, 3>), ours: impl FnOnce(&mut Filter<f64>) -> Result<(), Trouble>) {
     let mut held = unmoved(c9());
     rust(&mut held);
     let points = held.points();

@@ -6,12 +6,13 @@ use std::path::{Path, PathBuf};
 use std::process::ExitCode;
 
 use oracle::coverage::{
-    beside_partner, count, count_with, faulty_changes, holes, numbers, refused_with, searches, sheet_changes, with_rest, CORRECTIONS,
-    PIVOTS, SEARCHED, STAGES, STEPS,
+    beside_partner, count, count_with, faulty_changes, has, not_met, numbers, refused_with, searches, searching, sheet_changes, with_rest,
+    ALONE, CORRECTIONS, EVERYONE, PIVOTS, STAGES, STEPS,
 };
+use oracle::float::Float;
 use oracle::pair::Side;
 use oracle::places::{self, AFTER_PARAM, AFTER_PLAIN, SECOND, SEVERAL, SPOTS};
-use oracle::script::{Reader, Table, BAD, IN_USE, SETTERS, SHEET, STALE};
+use oracle::script::{named, On, Reader, Table, BAD, IN_USE, SETTERS, SHEET, STALE};
 
 const NAMES: [(u8, &str); 16] = [
     (0, "accepted"),
@@ -94,7 +95,7 @@ impl Figures {
                 continue;
             };
             self.compared += 1;
-            self.numbers += answer.split(' ').filter(|token| token.len() == 16).count() as u64;
+            self.numbers += answer.split(' ').filter(|token| [f32::HEX, f64::HEX].contains(&token.len())).count() as u64;
             let other = theirs.next().unwrap_or(b"(no answer)");
             if other != answer.as_bytes() {
                 self.differ(&place(), &String::from_utf8_lossy(line), &answer, &String::from_utf8_lossy(other));
@@ -130,22 +131,26 @@ impl Figures {
         println!("numbers compared        {:>10}", self.numbers);
         println!("differences             {:>10}", self.differences);
 
-        println!("\n{:<11}{}", "call", NAMES.map(|(number, _)| format!("{number:>7}")).concat());
+        println!("\n{:<13}{}", "call", NAMES.map(|(number, _)| format!("{number:>7}")).concat());
         for (call, numbers) in numbers() {
             let cell = |number: u8| if numbers.contains(&number) { count(&self.table, &call, number).to_string() } else { ".".into() };
-            println!("{call:<11}{}", NAMES.map(|(number, _)| format!("{:>7}", cell(number))).concat());
+            println!("{call:<13}{}", NAMES.map(|(number, _)| format!("{:>7}", cell(number))).concat());
         }
         self.print_places();
-        println!("\nwhere calls stopped");
+        println!("\n{:<31}{:>7}{:>7}", "where calls stopped", "f64", "@w");
         for (call, steps) in STEPS {
             for (number, step) in steps {
-                println!("{call:<10}{number}  {step:<18}{:>7}", count_with(&self.table, call, *number, step));
+                let cell = |on| match has(on, call) {
+                    true => count_with(&self.table, &named(on, call), *number, step).to_string(),
+                    false => ".".into(),
+                };
+                println!("{call:<10}{number}  {step:<18}{}", ALONE.map(|on| format!("{:>7}", cell(on))).concat());
             }
         }
         println!("\nsettings   accepted: {STALE:>7}{IN_USE:>9}    refused but by 3: {STALE:>7}{IN_USE:>9}");
-        for call in SETTERS {
-            let accepted = |points| count_with(&self.table, call, 0, points);
-            let refused = |points| refused_with(&self.table, call, points);
+        for call in ALONE.iter().flat_map(|on| SETTERS.map(|call| named(*on, call))) {
+            let accepted = |points| count_with(&self.table, &call, 0, points);
+            let refused = |points| refused_with(&self.table, &call, points);
             println!("{call:<20} {:>7}{:>9} {:>28}{:>9}", accepted(STALE), accepted(IN_USE), refused(STALE), refused(IN_USE));
         }
         println!("\naccepted on a side, its partner with {}", STAGES.map(|open| format!("{:>17}", open.name())).concat());
@@ -164,18 +169,25 @@ impl Figures {
             let counts = faulty_changes(&self.table, call).into_iter().map(|(met, count)| format!("   {met}: {count}"));
             println!("@{call:<8}{}", counts.collect::<String>());
         }
+        self.print_sizes();
+        let holes = not_met(&self.table, &self.places);
+        println!("\nnot met           {}", if holes.is_empty() { "nothing".to_string() } else { holes.join("; ") });
+    }
+
+    fn print_sizes(&self) {
         println!("\naccepted closes       {}", (1..=8).map(|n| format!("{:>7}", format!("n={n}"))).collect::<String>());
-        let line = |name: &str, cell: &dyn Fn(usize) -> u64| {
-            println!("{name:<22}{}", (1..=8).map(|n| format!("{:>7}", cell(n))).collect::<String>())
+        let line = |on: On, name: &str, call: &str, m: &str| {
+            let cell = |n: usize| count_with(&self.table, &named(on, call), 0, &format!("n={n}{m}"));
+            println!("{:<22}{}", named(on, name), (1..=8).map(|n| format!("{:>7}", cell(n))).collect::<String>())
         };
-        line("prediction", &|n| count_with(&self.table, "closep", 0, &format!("n={n}")));
-        for (call, name) in CORRECTIONS {
-            for m in 1..=4 {
-                line(&format!("{name}, m={m}"), &|n| count_with(&self.table, call, 0, &format!("n={n} m={m}")));
+        for on in ALONE {
+            line(on, "prediction", "closep", "");
+            for (call, name) in CORRECTIONS.iter().filter(|(call, _)| has(on, call)) {
+                for m in 1..=4 {
+                    line(on, &format!("{name}, m={m}"), call, &format!(" m={m}"));
+                }
             }
         }
-        let holes = holes(&self.table, &self.places);
-        println!("\nnot met           {}", if holes.is_empty() { "nothing".to_string() } else { holes.join("; ") });
     }
 
     /// What request A5's places were told among: the first bad number's place, what else was bad, and bad numbers past what an accepted call needs.
@@ -187,25 +199,32 @@ impl Figures {
         };
         println!();
         line("where the bad number stood", [words.clone(), vec!["past it".into()]].concat());
-        for (call, numbers) in SEARCHED {
+        for (name, call, numbers) in
+            EVERYONE.into_iter().flat_map(|on| searching(on).map(move |(call, numbers)| (named(on, call), call, numbers)))
+        {
             for number in (51..=56).filter(|number| numbers.contains(number)) {
                 let can = searches(call, number);
                 let cell = |can: bool, number: u8, word: &str| match can {
-                    true => count_with(&self.places, call, number, word).to_string(),
+                    true => count_with(&self.places, &name, number, word).to_string(),
                     false => ".".into(),
                 };
                 let mut cells: Vec<String> = words.iter().map(|word| cell(can.contains(word), number, word)).collect();
                 cells.push(cell(with_rest(call, number), 0, &places::past(number)));
-                line(&format!("{call:<10}{number}"), cells);
+                line(&format!("{name:<10} {number}"), cells);
             }
         }
-        for word in [AFTER_PLAIN, AFTER_PARAM] {
-            println!("closec    56 {word}: {}", count_with(&self.places, "closec", 56, word));
+        for name in ALONE.map(|on| named(on, "closec")) {
+            for word in [AFTER_PLAIN, AFTER_PARAM] {
+                println!("{name:<10} 56 {word}: {}", count_with(&self.places, &name, 56, word));
+            }
         }
         println!("\npivots by row");
-        for (call, number, rows) in PIVOTS {
-            let counts = (0..rows).map(|row| format!("{:>7}", count_with(&self.places, call, number, &places::row(row))));
-            println!("{call:<10}{number}{}", counts.collect::<String>());
+        for (on, (call, number, rows)) in
+            ALONE.iter().flat_map(|on| PIVOTS.map(|pivots| (*on, pivots))).filter(|(on, (call, ..))| has(*on, call))
+        {
+            let name = named(on, call);
+            let counts = (0..rows).map(|row| format!("{:>7}", count_with(&self.places, &name, number, &places::row(row))));
+            println!("{name:<10} {number}{}", counts.collect::<String>());
         }
     }
 }

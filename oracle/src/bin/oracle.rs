@@ -1,6 +1,6 @@
 //! Reads a script on standard input and writes its answers, as the published Rust and the refusals of documents 01 and 02 give them.
-//! With --table, what was met goes to standard error at the end: count, call (on a side with @ before it), number, and the stage, the step, the sizes
-//! or how things stood before the call.
+//! With --table, what was met goes to standard error at the end: count, call (on a side with @ before it, on the f32 filter with @w), number, and the stage,
+//! the step, the sizes or how things stood before the call.
 
 use std::io::{self, BufRead, Write};
 use std::process::ExitCode;

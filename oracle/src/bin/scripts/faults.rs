@@ -3,10 +3,10 @@
 use oracle::coverage::{count, count_with, FAULTS};
 use oracle::filter::{list_length, Open};
 use oracle::kinds::Kind;
-use oracle::script::{before, named, LINE, SHEET};
+use oracle::script::{before, named, On, LINE, SHEET};
 use oracle::steps::{Average, Params};
 
-use crate::maker::{close_of, float, kind, params, written, Fault, Made, Maker};
+use crate::maker::{close_of, Fault, Made, Maker};
 
 impl Maker {
     /// One fault, at times more than one, so that their order shows. The call answers each by its number; the first is mostly one that it gave least often.
@@ -40,10 +40,19 @@ impl Maker {
         self.random.pick(&[0, top + 1, top + 2, 1 << 32, 1 << 63, u64::MAX, u64::MAX / 2, u64::MAX - 1])
     }
 
+    /// Refused calls of every sort. They change nothing, so that a few of them show much.
+    pub fn refusals(&mut self, n: usize) -> Made<()> {
+        self.refused_new(n)?;
+        if !self.paired() || self.random.chance(50) {
+            self.refused_searches(n)?;
+        }
+        self.value()
+    }
+
     /// New with faults, and what the empty filter then answers.
-    pub fn refused_new(&mut self, n: usize) -> Made<()> {
+    fn refused_new(&mut self, n: usize) -> Made<()> {
         // A pair's New has more slices, and fewer episodes.
-        let [least, most] = if self.on.is_some() { [5, 10] } else { [3, 6] };
+        let [least, most] = if self.paired() { [5, 10] } else { [4, 7] };
         for turn in 0..self.random.between(least, most) {
             let aimed = turn % 3 != 0;
             let n = if aimed { n.max(3) } else { n };
@@ -62,14 +71,14 @@ impl Maker {
                 let fault = self.fault(name, f[1 + at], f[1 + count + at].then_some(slices[at]));
                 line = format!("{line} {}", self.list(list, fault));
             }
-            self.tell(line + &params(par))?;
+            self.say_apart(format!("{line} {}", self.params(par)))?;
         }
         self.on_the_empty_filter()
     }
 
     /// Any calls on whatever filter there is, mostly the empty one.
     pub fn on_the_empty_filter(&mut self) -> Made<()> {
-        for _ in 0..self.random.between(3, 10) {
+        for _ in 0..self.random.between(5, 12) {
             self.turn();
             match self.random.below(9) {
                 0..=2 => self.reading()?,
@@ -86,13 +95,10 @@ impl Maker {
         Ok(())
     }
 
-    /// An open with a short buffer, now and then.
-    pub fn refused_open(&mut self, name: &str) -> Made<()> {
-        if self.random.chance(6) {
-            let length = self.short_length(list_length(self.n()));
-            self.say(format!("{name} {length}"))?;
-        }
-        Ok(())
+    /// An open with a short buffer.
+    pub fn short_open(&mut self, name: &str) -> Made<u8> {
+        let length = self.short_length(list_length(self.n()));
+        self.say(format!("{name} {length}"))
     }
 
     pub fn faulty_close_prediction(&mut self, propagated: &[f64]) -> Made<()> {
@@ -104,14 +110,22 @@ impl Maker {
     }
 
     /// Faults in either close; on a filter with a turn the flat one has that fault besides.
-    pub fn faulty_close_correction(&mut self, z: &[f64], r: &[f64], measured: &[Kind], observed: &[f64]) -> Made<()> {
+    pub fn faulty_close_correction(&mut self, z: &[f64], r: &[f64], measured: &[Kind<f64>], observed: &[f64]) -> Made<()> {
         let average = self.average();
         let faults = self.faults(close_of(average), faults_of(average));
         self.faulty_close(average, &faults, z, r, measured, observed)
     }
 
     /// A close of a correction with these of its faults.
-    pub fn faulty_close(&mut self, average: Average, f: &[bool], z: &[f64], r: &[f64], measured: &[Kind], observed: &[f64]) -> Made<()> {
+    pub fn faulty_close(
+        &mut self,
+        average: Average,
+        f: &[bool],
+        z: &[f64],
+        r: &[f64],
+        measured: &[Kind<f64>],
+        observed: &[f64],
+    ) -> Made<()> {
         let (m, call) = (z.len(), close_of(average));
         let mut measured = measured.to_vec();
         if f.get(9) == Some(&true) {
@@ -128,7 +142,7 @@ impl Maker {
         if f[4] {
             // A pivot that isn't above 0: first or last of the refusals.
             let at = self.rare_row(call, 8, m);
-            r[at * m + at] = -f64::MAX;
+            r[at * m + at] = -self.width().largest();
         }
         let lists = [self.list(z, fz), self.list(&r, fr), self.list(observed, fo)];
         let line = self.correction_line(average, size, lists, &measured);
@@ -138,7 +152,7 @@ impl Maker {
 
     /// A setter with faults; on a pair mostly one of its sheet.
     pub fn refused_setter(&mut self) -> Made<()> {
-        let calls = if self.on.is_some() && self.random.chance(65) { &SHEET } else { self.setters() };
+        let calls = if self.paired() && self.random.chance(65) { &SHEET } else { self.setters() };
         self.refused_set(calls)
     }
 
@@ -179,26 +193,27 @@ impl Maker {
             "setpar" => {
                 let par = self.random.failing_params(n);
                 let par = if number == 6 { par } else { self.bad_params(call, par) };
-                format!("setpar{}", params(par))
+                format!("setpar {}", self.params(par))
             }
             _ => {
                 let i = if number == 1 { self.no_size(n as u64).max(n as u64) } else { self.random.below(n) as u64 };
                 // Out of range, either fault of h comes later.
                 let not_finite = number == 56 || number == 1 && self.random.chance(40);
                 let h = if not_finite { self.random.not_finite() } else { self.random.failing_half_turn() };
-                format!("setkind {i} {}", kind(Kind::Turn(h)))
+                format!("setkind {i} {}", self.kind(Kind::Turn(h)))
             }
         };
         self.say(line)?;
         self.after_refusal()
     }
 
-    /// A close that doesn't fit what is open, or does while nothing or the other is.
+    /// A close that doesn't fit what is open.
     pub fn wrong_close(&mut self) -> Made<()> {
         let list = vec![1.0; list_length(self.n().max(1))];
         let spot = self.any_spot();
         let fault = self.random.pick(&[Fault::None, Fault::Short, Fault::Number(spot)]);
-        let line = if self.filter().open == Open::Correction || self.random.chance(50) {
+        let open = self.filter().open;
+        let line = if open == Open::Correction || open == Open::Nothing && self.random.chance(50) {
             format!("closep {}", self.list(&list, fault))
         } else {
             let (average, m) = (self.either(), self.random.pick(&[0, 1, 1, 5, u64::MAX]));
@@ -209,9 +224,10 @@ impl Maker {
         Ok(())
     }
 
-    /// Either close of a correction, whatever the filter.
+    /// Any close of a correction, whatever the filter.
     pub fn either(&mut self) -> Average {
-        self.random.pick(&[Average::Weighted, Average::Flat])
+        let averages = self.averages();
+        self.random.pick(averages)
     }
 
     /// Closes and abandons with nothing open.
@@ -227,25 +243,30 @@ impl Maker {
     pub fn value(&mut self) -> Made<()> {
         for _ in 0..self.random.between(1, 4) {
             let line = match self.random.below(3) {
-                0 => format!("root {:016x}", self.rooted().to_bits()),
+                0 => {
+                    let a = self.rooted();
+                    format!("root {}", self.float(a))
+                }
                 1 => self.wrapped(),
                 _ => self.pointed(),
             };
-            self.tell(line)?;
+            self.say_apart(line)?;
         }
         Ok(())
     }
 
     fn rooted(&mut self) -> f64 {
+        let (width, digits) = (self.width(), self.width().digits());
         let any = self.random.finite().abs();
-        let whole = (self.random.bits() >> 37) as f64;
+        // Of half as many digits, so that the square has about as many as fit.
+        let whole = (self.random.bits() >> (63 - digits / 2)) as f64;
         let square = whole * whole;
         match self.random.below(10) {
             0..=2 => any,
             3 => square,
-            4 => f64::from_bits(square.to_bits() + 1),
-            5 => f64::from_bits(square.to_bits().max(1) - 1),
-            6 => f64::from_bits(self.random.bits() >> 12 >> self.random.below(52)),
+            4 => width.of_bits(width.bits(square) + 1),
+            5 => width.of_bits(width.bits(square).max(1) - 1),
+            6 => width.of_bits(self.random.bits() >> (64 - digits) >> self.random.below(digits as usize)),
             7 => self.random.least(),
             8 => -any,
             _ => self.random.not_finite(),
@@ -255,7 +276,7 @@ impl Maker {
     fn wrapped(&mut self) -> String {
         let unit = self.unit();
         let h = self.random.half_turn(unit);
-        let (d, h) = match self.random.below(13) {
+        let (d, h) = match self.random.below(14) {
             0 => (self.random.finite(), h),
             1 => (self.random.finite(), self.random.finite().abs()),
             2 | 12 => (self.random.finite(), self.random.failing_half_turn()),
@@ -264,10 +285,12 @@ impl Maker {
             5 => (self.random.odd(), h),
             6..=8 => (self.random.between(-9, 9) as f64 * h, h),
             // One bit beside a whole number of half-turns.
-            9 => (f64::from_bits((self.random.between(1, 9) as f64 * h).to_bits() ^ 1) * self.random.sign(), h),
+            9 => (self.width().beside(self.random.between(1, 9) as f64 * h, 1) * self.random.sign(), h),
+            // As many turns as there can be.
+            13 => (self.random.within(-1.0, 1.0) * self.width().largest(), self.random.least()),
             _ => (self.random.within(-10.0, 10.0) * h, h),
         };
-        format!("wrap {:016x} {:016x}", d.to_bits(), h.to_bits())
+        format!("wrap {} {}", self.float(d), self.float(h))
     }
 
     fn pointed(&mut self) -> String {
@@ -283,21 +306,22 @@ impl Maker {
 
     /// A line that is no call; as a rule. What it is answered, the reader decides.
     pub fn bad(&mut self) -> Made<()> {
-        if self.on.is_some() && self.random.chance(50) {
-            return self.bad_side();
+        if self.on != On::Solo && self.random.chance(50) {
+            return self.bad_address();
         }
-        let whole = format!("setx {}", written(&self.random.vector(3, 1.0)));
+        let numbers = self.random.vector(3, 1.0);
+        let (whole, one) = (format!("setx {}", self.written(&numbers)), self.float(1.0));
         let line: Vec<u8> = match self.random.below(27) {
             0 => whole[..whole.len() - 1].into(),
             1 => format!("{whole}0").into(),
-            2 => format!("{whole} {}", float(1.0)).into(),
+            2 => format!("{whole} {one}").into(),
             3 => whole.replace("setx 3", "setx 4").into(),
             4 => whole.replace("setx 3", "setx 2").into(),
             5 => whole.replace("setx", "SETX").into(),
             6 => whole.replace("setx 3", "setx -3").into(),
             7 => whole.replace("setx 3", "setx +3").into(),
             8 => whole.replace("setx 3", "setx 0x3").into(),
-            9 => b"root 3ff000000000000g".to_vec(),
+            9 => format!("root {}g", &one[1..]).into(),
             10 => b"openp 513".to_vec(),
             11 => b"readx 18446744073709551616".to_vec(),
             12 => b"closec 1 0 0 p p p 0".to_vec(),
@@ -308,7 +332,7 @@ impl Maker {
             17 => b"setkind 0 t".to_vec(),
             18 => b"dump 1".to_vec(),
             19 => b"root \xff\x00".to_vec(),
-            20 => format!("point 1 0 513{}", " 3ff0000000000000".repeat(513)).into(),
+            20 => format!("point 1 0 513{}", format!(" {one}").repeat(513)).into(),
             21 => format!("new {}", "9".repeat(30)).into(),
             // Taken all the same: tabs, blanks around, upper case, zeros in front, a comment behind.
             22 => whole.replace(' ', "\t ").into(),
@@ -318,7 +342,7 @@ impl Maker {
                 // Exactly as long as a line may be, or one longer.
                 let extra = self.random.below(2);
                 let filling = self.random.pick(&[" ", "#", "\t"]);
-                let line = format!("root {}", float(2.0));
+                let line = format!("{} root {}", if self.paired() { "" } else { self.on.name() }, self.float(2.0));
                 let more = LINE + extra - line.len();
                 self.tell(format!("{line}{}", filling.repeat(more)))?;
                 return Ok(());
@@ -332,6 +356,53 @@ impl Maker {
         Ok(())
     }
 
+    /// A line that names nobody, or no call that whom it names takes.
+    fn bad_address(&mut self) -> Made<()> {
+        let lines: &[&str] = match self.on {
+            On::Narrow => &[
+                "@w",
+                "@w # dump",
+                "@W dump",
+                "@wdump",
+                "@ w dump",
+                "@w @w dump",
+                "@w @1 dump",
+                "@2 @w dump",
+                "@w openp",
+                "@w closef 1 0 0 0",
+                "@w newpair 0 0 0 0 0 0 00000000 00000000 00000000",
+                "@w new 0 0 0 0 0000000000000000 0000000000000000 0000000000000000",
+                "@w root 4010000000000000",
+                "@w wrap 43870000 4066800000000000",
+                "@w setx 1 3ff0000000000000",
+                "@1 setx 1 3f800000",
+                "root 40800000",
+                "setkind 0 t 43340000",
+            ],
+            _ => &[
+                "@1",
+                "@2 # dump",
+                "@3 dump",
+                "@0 readstale",
+                "@1dump",
+                "@ 1 dump",
+                "@1 @2 dump",
+                "@1 @1 readstale",
+                "@2 abandon now",
+                "@1 openp",
+                "@2 root 4010000000000000",
+                "@1 wrap 4010000000000000 4010000000000000",
+                "@2 point 1 0 3 4010000000000000 4010000000000000 4010000000000000",
+                "@1 new 0 0 0 0 0000000000000000 0000000000000000 0000000000000000",
+                "@2 newpair 0 0 0 0 0 0 0000000000000000 0000000000000000 0000000000000000",
+                "newpair 0 0 0 0 0 0000000000000000 0000000000000000 0000000000000000",
+            ],
+        };
+        let line = self.random.pick(lines);
+        self.tell(line)?;
+        Ok(())
+    }
+
     /// A call by pure chance, with arguments in form.
     pub fn random_call(&mut self) -> Made<()> {
         let n = if self.random.chance(90) { self.n().max(1) } else { 1 + self.random.below(8) };
@@ -340,9 +411,13 @@ impl Maker {
             1 => format!("setp {}", self.any_list(n * n)),
             2 => format!("setq {}", self.any_list(n * n)),
             3 => {
-                format!("setpar{}", params(Params { alpha: self.random.finite(), beta: self.random.finite(), kappa: self.random.finite() }))
+                let par = Params { alpha: self.random.finite(), beta: self.random.finite(), kappa: self.random.finite() };
+                format!("setpar {}", self.params(par))
             }
-            4 => format!("setkind {} {}", self.random.below(9), kind(Kind::Turn(self.random.finite()))),
+            4 => {
+                let (i, h) = (self.random.below(9), self.random.finite());
+                format!("setkind {i} {}", self.kind(Kind::Turn(h)))
+            }
             5 => "abandon".into(),
             6 => format!("openp {}", self.length(list_length(n))),
             7 => format!("openc {}", self.length(list_length(n))),

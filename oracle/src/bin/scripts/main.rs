@@ -8,6 +8,7 @@ mod overflows;
 mod pairs;
 mod rounds;
 mod searches;
+mod widths;
 
 use std::process::ExitCode;
 

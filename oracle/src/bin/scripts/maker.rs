@@ -3,15 +3,17 @@
 use std::convert::Infallible;
 use std::io::{self, BufWriter, Stdout, Write};
 
-use oracle::coverage::count_with;
+use oracle::coverage::{count_with, holes, EVERYONE};
 use oracle::filter::{list_length, Filter, Open};
+use oracle::float::Float;
 use oracle::kinds::Kind;
 use oracle::pair::Side;
-use oracle::script::{bits, named, Reader, BAD};
+use oracle::script::{named, On, Reader, BAD};
 use oracle::steps::{Average, Params};
 
 use crate::numbers::Random;
 use crate::searches::Spot;
+use crate::widths::Width;
 
 /// Why the making ends.
 pub enum End {
@@ -21,17 +23,65 @@ pub enum End {
 
 pub type Made<A> = Result<A, End>;
 
+/// What an episode is about: refused calls, steps that stop, rounds as a user has them, anything.
+#[derive(Clone, Copy)]
+enum Sort {
+    Refusals,
+    Steps,
+    Rounds,
+    Wild,
+}
+
+/// The sorts in turn.
+const CYCLE: [Sort; 11] = {
+    use Sort::*;
+    [Refusals, Rounds, Steps, Wild, Rounds, Rounds, Steps, Wild, Rounds, Steps, Rounds]
+};
+
 pub struct Maker {
     pub random: Random,
     pub reader: Reader,
-    /// On whom calls are made: the solo filter, or a side of the pair.
-    pub on: Option<Side>,
+    /// On whom calls are made.
+    pub on: On,
+    /// Whether it is the midst of a round on someone else.
+    amid: bool,
     out: BufWriter<Stdout>,
     left: u64,
-    /// How many episodes there were on the solo filter and on pairs.
-    episodes: [u64; 2],
-    /// How often `overflow` has aimed at a step of the solo filter.
-    pub aims: u64,
+    /// How many episodes there were on the solo filter, on the f32 filter and on pairs.
+    episodes: [u64; 3],
+    /// Whether all that `coverage` lists was met.
+    all_met: bool,
+}
+
+/// What the maker looks at in a filter of either width.
+pub struct View {
+    pub n: usize,
+    pub x: Vec<f64>,
+    pub p: Vec<f64>,
+    pub q: Vec<f64>,
+    pub par: Params<f64>,
+    pub kinds: Vec<Kind<f64>>,
+    pub open: Open,
+    pub drawn_weights: [f64; 2],
+    pub drawn_points: Vec<f64>,
+}
+
+impl View {
+    fn of<T: Float>(filter: &Filter<T>) -> View {
+        let wide = |numbers: &[T]| numbers.iter().map(|number| number.wide()).collect();
+        let [alpha, beta, kappa] = filter.par.numbers().map(T::wide);
+        View {
+            n: filter.n,
+            x: wide(&filter.x),
+            p: wide(&filter.p),
+            q: wide(&filter.q),
+            par: Params { alpha, beta, kappa },
+            kinds: filter.kinds.iter().map(|kind| kind.half().map_or(Kind::Plain, |h| Kind::Turn(h.wide()))).collect(),
+            open: filter.open,
+            drawn_weights: filter.drawn_weights.map(T::wide),
+            drawn_points: wide(&filter.drawn_points),
+        }
+    }
 }
 
 /// What is wrong with a lent list, if anything.
@@ -47,51 +97,147 @@ impl Maker {
         Maker {
             random: Random::new(seed),
             reader: Reader::default(),
-            on: None,
+            on: On::Solo,
+            amid: false,
             out: BufWriter::new(io::stdout()),
             left: calls,
-            episodes: [seed; 2],
-            aims: seed,
+            episodes: [seed; 3],
+            all_met: false,
         }
     }
 
     /// Writes episodes until there are enough calls.
     pub fn script(&mut self) -> Made<Infallible> {
-        for on in [None, Some(Side::One)] {
-            self.on = on;
+        for on in EVERYONE {
+            self.turn_to(on);
             if self.random.chance(50) {
                 self.on_the_empty_filter()?;
             }
         }
         loop {
-            let paired = self.random.chance(25);
-            self.on = paired.then_some(Side::One);
+            let (whose, needed) = self.needed();
+            self.turn_to(EVERYONE[whose]);
             self.turn();
-            // Every size in turn and, eleven being prime to eight, every sort of episode with each, so that a short script meets them all.
-            // Pairs have fewer episodes and are led to fewer steps, but the empty pair has as many calls to refuse.
-            let at = self.episodes[usize::from(paired)];
-            self.episodes[usize::from(paired)] += 1;
+            // Every size in turn and, eleven being prime to eight, every sort of episode with each.
+            let at = self.episodes[whose];
+            self.episodes[whose] += 1;
             let n = 1 + (at % 8) as usize;
-            match at % 11 {
-                0 => {
-                    self.refused_new(n)?;
-                    self.refused_searches(n)?;
+            match needed.unwrap_or(CYCLE[(at % 11) as usize]) {
+                Sort::Refusals => self.refusals(n)?,
+                Sort::Steps => {
+                    for _ in 0..self.random.between(1, 4) {
+                        self.overflow(n)?;
+                    }
                 }
-                4 if paired => self.refused_new(n)?,
-                3 | 7 => self.wild(n)?,
-                2 | 4 | 6 | 9 => self.overflow(n)?,
-                sort => self.episode(n, sort % 2 == 0)?,
+                Sort::Rounds => {
+                    let (n, turns) = (self.rare_size(n), self.random.chance(35));
+                    self.episode(n, turns)?
+                }
+                Sort::Wild => self.wild(n)?,
             }
             self.bystander()?;
         }
     }
 
-    /// A call on the solo filter or on the side whose turn it is: the number of its answer, or BAD.
-    pub fn say(&mut self, line: impl AsRef<[u8]>) -> Made<u8> {
-        match self.on {
-            None => self.tell(line),
-            Some(side) => self.tell([side.name().as_bytes(), line.as_ref()].join(&b' ')),
+    /// Whose the next episode is, and its sort if that matters: mostly what leads to something that wasn't met yet, so that a short script meets all.
+    fn needed(&mut self) -> (usize, Option<Sort>) {
+        if !self.all_met && self.random.chance(75) {
+            let holes = holes(&self.reader.table, &self.reader.places);
+            let sorts = holes.iter().enumerate().flat_map(|(whose, holes)| {
+                [(Sort::Refusals, &holes.refusals), (Sort::Steps, &holes.steps), (Sort::Rounds, &holes.rounds)]
+                    .map(|(sort, unmet)| vec![(whose, Some(sort)); unmet.len()])
+            });
+            let sorts: Vec<_> = sorts.flatten().collect();
+            if !sorts.is_empty() {
+                return self.random.pick(&sorts);
+            }
+            self.all_met = true;
         }
+        (self.random.pick(&[0, 0, 1, 2]), None)
+    }
+
+    /// A size that corrections were least often accepted with; on pairs, where any will do, the one that is given.
+    fn rare_size(&mut self, n: usize) -> usize {
+        if self.paired() {
+            return n;
+        }
+        let calls: Vec<String> = self.averages().iter().map(|average| named(self.on, close_of(*average))).collect();
+        let least = |call: &String, n: usize| (1..=4).map(|m| self.accepted_with(call, n, m)).min().unwrap_or(0);
+        let met: Vec<u64> = (1..=8).map(|n| calls.iter().map(|call| least(call, n)).sum()).collect();
+        1 + self.rare(&met)
+    }
+
+    /// How often this close of a correction was accepted with these sizes.
+    fn accepted_with(&self, call: &str, n: usize, m: usize) -> u64 {
+        count_with(&self.reader.table, call, 0, &format!("n={n} m={m}"))
+    }
+
+    /// From here on calls are made on this one, with numbers of its width.
+    pub fn turn_to(&mut self, on: On) {
+        self.on = on;
+        self.random.width = if on == On::Narrow { Width::F32 } else { Width::F64 };
+    }
+
+    pub fn paired(&self) -> bool {
+        matches!(self.on, On::Side(_))
+    }
+
+    pub fn width(&self) -> Width {
+        self.random.width
+    }
+
+    /// A call on whose turn it is: the number of its answer, or BAD.
+    pub fn say(&mut self, line: impl AsRef<[u8]>) -> Made<u8> {
+        self.interlude()?;
+        self.tell_to(self.on, line)
+    }
+
+    /// A call that makes a filter or is on values: no side has it, the f32 filter has its own.
+    pub fn say_apart(&mut self, line: impl AsRef<[u8]>) -> Made<u8> {
+        self.tell_to(if self.paired() { On::Solo } else { self.on }, line)
+    }
+
+    fn tell_to(&mut self, on: On, line: impl AsRef<[u8]>) -> Made<u8> {
+        match on.name() {
+            "" => self.tell(line),
+            name => self.tell([name.as_bytes(), line.as_ref()].join(&b' ')),
+        }
+    }
+
+    /// Now and then in the midst of a round: calls on someone else, who mustn't notice.
+    fn interlude(&mut self) -> Made<()> {
+        if self.amid || !self.random.chance(3) {
+            return Ok(());
+        }
+        let on = self.on;
+        self.amid = true;
+        self.turn_to_another();
+        match self.random.below(8) {
+            0..=1 => self.reading()?,
+            2 => self.value()?,
+            3 => self.setter(1.0)?,
+            4..=5 if !self.shut() => self.end(1.0)?,
+            4 => {
+                self.open_prediction()?;
+            }
+            5 => {
+                self.open_correction()?;
+            }
+            6 => self.random_call()?,
+            _ => {
+                self.say("dump")?;
+            }
+        }
+        self.amid = false;
+        self.turn_to(on);
+        Ok(())
+    }
+
+    pub fn turn_to_another(&mut self) {
+        let mut others = vec![On::Solo, On::Narrow, On::Side(Side::One), On::Side(Side::Two)];
+        others.retain(|other| *other != self.on && !(self.paired() && matches!(other, On::Side(_))));
+        let on = self.random.pick(&others);
+        self.turn_to(on);
     }
 
     /// A line that gets an answer, as it is.
@@ -113,8 +259,12 @@ impl Maker {
         self.out.write_all(line).and_then(|()| self.out.write_all(b"\n")).map_err(trouble)
     }
 
-    pub fn filter(&self) -> &Filter {
-        self.reader.filter(self.on)
+    pub fn filter(&self) -> View {
+        match self.on {
+            On::Solo => View::of(&self.reader.filter),
+            On::Narrow => View::of(&self.reader.narrow),
+            On::Side(side) => View::of(self.reader.pair.side(side)),
+        }
     }
 
     pub fn n(&self) -> usize {
@@ -136,7 +286,7 @@ impl Maker {
     }
 
     /// How often a call gave these numbers, things being as they are.
-    pub fn met(&self, on: Option<Side>, call: &str, numbers: &[u8]) -> u64 {
+    pub fn met(&self, on: On, call: &str, numbers: &[u8]) -> u64 {
         let (name, beside) = (named(on, call), self.reader.beside(on, call));
         numbers.iter().map(|number| count_with(&self.reader.table, &name, *number, &beside)).sum()
     }
@@ -159,16 +309,16 @@ impl Maker {
                     let at = self.random.below(numbers.len());
                     numbers[at] = self.random.not_finite();
                 }
-                return written(&numbers);
+                return self.written(&numbers);
             }
             Fault::Number(spot) => self.spoil(&mut numbers, spot),
             Fault::None => {}
         }
-        if self.random.chance(25) {
+        if self.random.chance(30) {
             let more = if self.random.chance(4) { 512 - numbers.len() } else { 1 + self.random.below(4) };
             numbers.extend((0..more).map(|_| self.random.junk()));
         }
-        written(&numbers)
+        self.written(&numbers)
     }
 
     /// The length of a buffer that is exactly full, or longer.
@@ -191,7 +341,7 @@ impl Maker {
 
     /// New's name, and the lists that it is lent: on a pair those of the side whose turn it is, and an x and a P of about this unit for its partner.
     pub fn new_lists(&mut self, n: usize, unit: f64, [x, p, q]: [Vec<f64>; 3]) -> (&'static str, Vec<Vec<f64>>) {
-        let Some(side) = self.on else {
+        let On::Side(side) = self.on else {
             return ("new", vec![x, p, q]);
         };
         let (x2, p2) = (self.random.vector(n, unit), self.random.covariance(n, unit));
@@ -201,10 +351,10 @@ impl Maker {
         }
     }
 
-    pub fn new_line(&mut self, n: usize, unit: f64, lists: [Vec<f64>; 3], par: Params) -> Made<u8> {
+    pub fn new_line(&mut self, n: usize, unit: f64, lists: [Vec<f64>; 3], par: Params<f64>) -> Made<u8> {
         let (name, lists) = self.new_lists(n, unit, lists);
         let lists: Vec<String> = lists.iter().map(|list| self.list(list, Fault::None)).collect();
-        self.tell(format!("{name} {n} {}{}", lists.join(" "), params(par)))
+        self.say_apart(format!("{name} {n} {} {}", lists.join(" "), self.params(par)))
     }
 
     pub fn open_prediction(&mut self) -> Made<u8> {
@@ -223,14 +373,14 @@ impl Maker {
     }
 
     /// A close of a correction with m measurements, by either average.
-    pub fn close_correction(&mut self, average: Average, z: &[f64], r: &[f64], measured: &[Kind], observed: &[f64]) -> Made<u8> {
+    pub fn close_correction(&mut self, average: Average, z: &[f64], r: &[f64], measured: &[Kind<f64>], observed: &[f64]) -> Made<u8> {
         let lists = [z, r, observed].map(|list| self.list(list, Fault::None));
         let line = self.correction_line(average, z.len() as u64, lists, measured);
         self.say(line)
     }
 
     /// The line of either close of a correction; of kinds, those from m up are junk, and the flat close has none.
-    pub fn correction_line(&mut self, average: Average, m: u64, [z, r, observed]: [String; 3], measured: &[Kind]) -> String {
+    pub fn correction_line(&mut self, average: Average, m: u64, [z, r, observed]: [String; 3], measured: &[Kind<f64>]) -> String {
         let name = close_of(average);
         match average {
             Average::Weighted => format!("{name} {m} {z} {r} {} {observed}", self.four_kinds(measured)),
@@ -238,26 +388,37 @@ impl Maker {
         }
     }
 
-    /// How many measurements: any number, or for the solo filter mostly the one that this close was least often accepted with.
+    /// How many measurements: any number on a side, else mostly the one that this close was least often accepted with.
     pub fn measurements(&mut self, average: Average) -> usize {
-        if self.on.is_some() {
+        if self.paired() {
             return 1 + self.random.below(4);
         }
-        let met = |m: usize| count_with(&self.reader.table, close_of(average), 0, &format!("n={} m={m}", self.n()));
-        1 + self.rare(&[1, 2, 3, 4].map(met))
+        let (call, n) = (named(self.on, close_of(average)), self.n());
+        let met = [1, 2, 3, 4].map(|m| self.accepted_with(&call, n, m));
+        1 + self.rare(&met)
+    }
+
+    /// The closes that whose turn it is has: request A6 has no flat one.
+    pub fn averages(&self) -> &'static [Average] {
+        match self.on {
+            On::Narrow => &[Average::Weighted],
+            _ => &[Average::Weighted, Average::Flat],
+        }
     }
 
     /// Which close a correction is aimed at: seldom the flat one where it is refused for a turn, else mostly the one less met.
     pub fn average(&mut self) -> Average {
-        let averages = [Average::Weighted, Average::Flat];
+        let averages = self.averages();
         if self.turns() {
-            return averages[usize::from(self.random.chance(15))];
+            let flat = self.random.chance(15);
+            return averages[usize::from(flat).min(averages.len() - 1)];
         }
         let n = self.n();
-        let met = averages.map(close_of).map(|call| match self.on {
-            Some(_) => self.met(self.on, call, &[0]),
-            None => (1..=4).map(|m| count_with(&self.reader.table, call, 0, &format!("n={n} m={m}"))).sum(),
-        });
+        let met = |call: &str| match self.on {
+            On::Side(_) => self.met(self.on, call, &[0]),
+            _ => (1..=4).map(|m| self.accepted_with(&named(self.on, call), n, m)).sum(),
+        };
+        let met: Vec<u64> = averages.iter().map(|average| met(close_of(*average))).collect();
         averages[self.rare(&met)]
     }
 
@@ -267,13 +428,34 @@ impl Maker {
     }
 
     /// Four KINDs, these first.
-    fn four_kinds(&mut self, measured: &[Kind]) -> String {
+    fn four_kinds(&mut self, measured: &[Kind<f64>]) -> String {
         let mut all = measured.to_vec();
         while all.len() < 4 {
             let junk = if self.random.chance(50) { Kind::Plain } else { Kind::Turn(self.random.junk()) };
             all.push(junk);
         }
-        all.into_iter().map(kind).collect::<Vec<_>>().join(" ")
+        all.into_iter().map(|kind| self.kind(kind)).collect::<Vec<_>>().join(" ")
+    }
+
+    /// A LIST as it is written.
+    pub fn written(&self, numbers: &[f64]) -> String {
+        format!("{}{}", numbers.len(), numbers.iter().map(|number| format!(" {}", self.float(*number))).collect::<String>())
+    }
+
+    pub fn params(&self, par: Params<f64>) -> String {
+        par.numbers().map(|number| self.float(number)).join(" ")
+    }
+
+    pub fn kind(&self, kind: Kind<f64>) -> String {
+        match kind.half() {
+            None => "p".into(),
+            Some(h) => format!("t {}", self.float(h)),
+        }
+    }
+
+    /// One number.
+    pub fn float(&self, number: f64) -> String {
+        self.width().word(number)
     }
 }
 
@@ -286,30 +468,4 @@ pub fn close_of(average: Average) -> &'static str {
 
 fn trouble(error: io::Error) -> End {
     End::Trouble(error.to_string())
-}
-
-/// A LIST as it is written.
-pub fn written(numbers: &[f64]) -> String {
-    format!("{}{}", numbers.len(), raw(numbers))
-}
-
-/// Bits as they are: a script may hold any NaN pattern.
-fn raw(numbers: &[f64]) -> String {
-    numbers.iter().map(|number| format!(" {:016x}", number.to_bits())).collect()
-}
-
-pub fn params(par: Params) -> String {
-    raw(&[par.alpha, par.beta, par.kappa])
-}
-
-pub fn kind(kind: Kind) -> String {
-    match kind.half() {
-        None => "p".into(),
-        Some(h) => format!("t{}", raw(&[h])),
-    }
-}
-
-/// One number.
-pub fn float(number: f64) -> String {
-    bits(&[number]).trim().to_string()
 }

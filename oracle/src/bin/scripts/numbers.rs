@@ -1,18 +1,24 @@
 //! A small generator of pseudo-random numbers (splitmix64) and the numbers that scripts are made of.
 //! Only exact and correctly rounded operations are used, so a seed gives the same script everywhere.
 
-use oracle::steps::{all_finite, Params, Weights};
+use oracle::steps::{all_finite, Params};
 
-pub struct Random(u64);
+use crate::widths::Width;
+
+pub struct Random {
+    state: u64,
+    /// For which the numbers are made.
+    pub width: Width,
+}
 
 impl Random {
     pub fn new(seed: u64) -> Self {
-        Random(seed)
+        Random { state: seed, width: Width::F64 }
     }
 
     pub fn bits(&mut self) -> u64 {
-        self.0 = self.0.wrapping_add(0x9e37_79b9_7f4a_7c15);
-        let mut z = self.0;
+        self.state = self.state.wrapping_add(0x9e37_79b9_7f4a_7c15);
+        let mut z = self.state;
         z = (z ^ z >> 30).wrapping_mul(0xbf58_476d_1ce4_e5b9);
         z = (z ^ z >> 27).wrapping_mul(0x94d0_49bb_1331_11eb);
         z ^ z >> 31
@@ -48,7 +54,7 @@ impl Random {
     /// Any finite number, all exponents alike.
     pub fn finite(&mut self) -> f64 {
         loop {
-            let number = f64::from_bits(self.bits());
+            let number = self.width.of_bits(self.bits());
             if number.is_finite() {
                 return number;
             }
@@ -57,21 +63,27 @@ impl Random {
 
     /// A NaN of some pattern, or an infinity.
     pub fn not_finite(&mut self) -> f64 {
-        let nan = 0x7ff0_0000_0000_0001 | self.bits() & 0x800f_ffff_ffff_ffff;
-        f64::from_bits(self.pick(&[nan, 0x7ff8_0000_0000_0000, 0x7ff0_0000_0000_0000, 0xfff0_0000_0000_0000]))
+        let (width, infinity) = (self.width, self.width.infinity());
+        let nan = width.without_exponent(self.bits()) | infinity | 1;
+        let quiet = infinity | 1 << (width.digits() - 1);
+        self.pick(&[width.of_bits(nan), width.of_bits(quiet), f64::INFINITY, -f64::INFINITY])
+    }
+
+    fn subnormal(&mut self) -> f64 {
+        let bits = self.width.without_exponent(self.bits());
+        self.width.of_bits(bits)
     }
 
     /// A number with something about it.
     pub fn odd(&mut self) -> f64 {
-        let subnormal = f64::from_bits(self.bits() & 0x800f_ffff_ffff_ffff);
-        self.pick(&[0.0, -0.0, subnormal, f64::from_bits(1), -f64::from_bits(1), f64::MIN_POSITIVE, f64::MAX, -f64::MAX, 1.0, -1.0])
+        let (subnormal, one, normal, largest) = (self.subnormal(), self.width.smallest(), self.width.normal(), self.width.largest());
+        self.pick(&[0.0, -0.0, subnormal, one, -one, normal, largest, -largest, 1.0, -1.0])
     }
 
     /// A zero of either sign or one of the smallest numbers: where a sum's sign or its last unit shows.
     pub fn least(&mut self) -> f64 {
-        let subnormal = f64::from_bits(self.bits() & 0x800f_ffff_ffff_ffff);
-        let one = f64::from_bits(1);
-        self.pick(&[0.0, -0.0, one, -one, subnormal, f64::MIN_POSITIVE])
+        let (subnormal, one, normal) = (self.subnormal(), self.width.smallest(), self.width.normal());
+        self.pick(&[0.0, -0.0, one, -one, subnormal, normal])
     }
 
     /// Whatever stands in a tail that must not be read.
@@ -115,7 +127,7 @@ impl Random {
                 let sum: f64 = (0..d).map(|k| (b[i * d + k] * unit) * (b[j * d + k] * unit)).sum();
                 a[i * d + j] = match skew {
                     // The last bits differ, or the upper triangle is something else altogether.
-                    1 if i < j => f64::from_bits(sum.to_bits() ^ self.below(4) as u64),
+                    1 if i < j => self.width.beside(sum, self.below(4) as u64),
                     2 if i < j => sum * self.within(0.5, 1.5),
                     3 if i < j => self.within(-1.0, 1.0) * unit * unit,
                     _ => sum,
@@ -137,7 +149,7 @@ impl Random {
     }
 
     /// Parameters that pass 6 for n states.
-    pub fn params(&mut self, n: usize) -> Params {
+    pub fn params(&mut self, n: usize) -> Params<f64> {
         let states = n as f64;
         for _ in 0..20 {
             let (alpha, beta, kappa) = match self.below(12) {
@@ -150,14 +162,18 @@ impl Random {
                 5 => (self.within(0.05, 0.5), 2.0, 0.0),
                 6 => (self.within(1.0, 1000.0) * self.sign(), self.within(-10.0, 10.0), self.within(0.0, 10.0)),
                 // 2N overflows, and wi is +0.
-                7 if self.chance(20) => (self.within(0.96e154, 1.3e154), 2.0, 1.0 - states),
+                7 if self.chance(20) => (self.within(0.72, 0.97) * self.width.largest().sqrt(), 2.0, 1.0 - states),
                 7 => (1.0, self.within(0.0, 1.0e6), self.within(0.0, 1.0e6)),
-                8 if self.chance(30) => (self.within(1.0e-7, 1.0e-5), self.odd() * f64::EPSILON, 0.0),
-                9 if self.chance(30) => (f64::from_bits(self.bits() & 0x7fff_ffff_ffff_ffff), self.finite(), self.finite()),
+                // N is what rounding leaves of it.
+                8 if self.chance(30) => {
+                    let epsilon = self.width.epsilon();
+                    (self.within(10.0, 1000.0) * epsilon.sqrt(), self.odd() * epsilon, 0.0)
+                }
+                9 if self.chance(30) => (self.finite().abs(), self.finite(), self.finite()),
                 _ => (self.within(0.3, 1.5) * self.sign(), self.within(-1.0, 3.0), self.within(0.2 - states, 5.0)),
             };
             let par = Params { alpha, beta, kappa };
-            if all_finite(&par.numbers()) && Weights::of(n, par).pass() {
+            if all_finite(&par.numbers()) && self.width.weights(n, par).pass() {
                 return par;
             }
         }
@@ -165,15 +181,15 @@ impl Random {
     }
 
     /// Finite parameters that fail 6 for n states, each in its own way.
-    pub fn failing_params(&mut self, n: usize) -> Params {
-        let states = n as f64;
+    pub fn failing_params(&mut self, n: usize) -> Params<f64> {
+        let (states, edges, largest) = (n as f64, self.width.edges(), self.width.largest());
         let (alpha, beta, kappa) = match self.below(6) {
             // N = 0, below 0, too small to see, infinite; w0c too large.
             0 => (1.0, self.within(-2.0, 2.0), -states),
             1 => (self.within(0.5, 2.0), 2.0, -states - self.within(0.1, 10.0)),
             2 => (1.0e-9, 2.0, 0.0),
-            3 => (1.0e200, 2.0, 0.0),
-            4 => (1.0e154, -1.7e308, 1.0e-3 - states),
+            3 => (edges.huge, 2.0, 0.0),
+            4 => (edges.wide.sqrt(), -0.95 * largest, 1.0e-3 - states),
             _ => (0.0, 0.0, 0.0),
         };
         Params { alpha, beta, kappa }
@@ -186,10 +202,14 @@ impl Random {
             3 => std::f64::consts::PI * unit,
             4 => self.within(0.1, 3.0) * unit,
             5 => unit,
-            6 => f64::from_bits(self.pick(&[1, 2, 3, 0x0010_0000_0000_0000, 0x7fdf_ffff_ffff_ffff])),
+            6 => {
+                let (smallest, normal, most) = (self.width.smallest(), self.width.normal(), self.width.largest() / 2.0);
+                self.pick(&[smallest, 2.0 * smallest, 3.0 * smallest, normal, most])
+            }
             _ => self.within(5.0, 50.0) * unit,
         };
-        if oracle::kinds::is_half_turn(h) {
+        let h = self.width.rounded(h);
+        if self.width.is_half_turn(h) {
             h
         } else {
             1.0
@@ -198,6 +218,7 @@ impl Random {
 
     /// Finite, but no half-turn.
     pub fn failing_half_turn(&mut self) -> f64 {
-        self.pick(&[0.0, -0.0, -180.0, -f64::from_bits(1), f64::from_bits(0x7fe0_0000_0000_0000), f64::MAX, -f64::MAX])
+        let (smallest, top, largest) = (self.width.smallest(), self.width.top(), self.width.largest());
+        self.pick(&[0.0, -0.0, -180.0, -smallest, top, largest, -largest])
     }
 }

@@ -1,26 +1,23 @@
 //! Filters led to each refusal that a step gives: 7, 8, and 9 in every listed step result, of the weighted close and of the flat one.
 
-use oracle::coverage::count;
+use oracle::coverage::{count, count_with, has, STEPS};
 use oracle::kinds::Kind;
-use oracle::script::named;
-use oracle::steps::{Average, Params, Weights};
+use oracle::script::{named, On};
+use oracle::steps::{Average, Params};
 
-use crate::maker::{close_of, params, Fault, Made, Maker};
+use crate::maker::{close_of, Fault, Made, Maker};
 use crate::rounds::power;
 
-const TINY: f64 = 1.0e-300;
-const MAX: f64 = f64::MAX;
-
 /// One turn-free measurement per state, at most four.
-const PLAIN: [Kind; 4] = [Kind::Plain; 4];
+const PLAIN: [Kind<f64>; 4] = [Kind::Plain; 4];
 
 impl Maker {
     pub fn overflow(&mut self, n: usize) -> Made<()> {
-        let aim = self.aim();
+        let (call, step) = self.aim();
         // One state has no entry below the diagonal; a row wants as many states.
-        let n = match aim {
-            22 => n.max(1 + self.rare_row("openp", 7, 8)),
-            23 => n.max(2),
+        let n = match step {
+            "P's pivot" => n.max(1 + self.rare_row("openp", 7, 8)),
+            "P's factor entry" => n.max(2),
             _ => n,
         };
         // These weigh exactly (N is a power of two), so that means of equal points are those points.
@@ -29,29 +26,22 @@ impl Maker {
         if self.new_line(n, 1.0, lists, exact)? != 0 {
             return Ok(()); // too long a line
         }
-        let (average, m) = ([Average::Weighted, Average::Flat][aim % 2], 1 + self.random.below(4));
-        if average == Average::Flat && self.random.chance(5) {
-            // Refused for its kind before any step is taken.
-            let i = self.random.below(n);
-            self.say(format!("setkind {i} t 4066800000000000"))?;
-        }
-        match aim {
-            0..=1 => self.z_mean(average, m)?,
-            2..=3 => self.innovation(average, m)?,
-            4..=5 => self.x_mean(average, m)?,
-            6..=7 => self.cross_covariance(average, m)?,
-            8..=9 => self.pivot_of_s(average, m)?,
-            10..=11 => self.entry_of_s(average, m.max(2))?,
-            12..=13 => self.inverse(average, m)?,
-            14..=15 => self.gain(average, m)?,
-            16..=17 => self.y(average, m)?,
-            18..=19 => self.corrected_x(average, m)?,
-            20..=21 => self.corrected_p(average, m)?,
-            22 => self.pivot_of_p()?,
-            23 => self.entry_of_p()?,
-            24 => self.points()?,
-            25 => self.prediction_mean()?,
-            _ => self.prediction_spread()?,
+        match call {
+            "closec" => self.stopped_correction(Average::Weighted, step)?,
+            "closef" => {
+                if self.random.chance(5) {
+                    // Refused for its kind before any step is taken.
+                    self.half_circle()?;
+                }
+                self.stopped_correction(Average::Flat, step)?
+            }
+            _ => match step {
+                "P's pivot" => self.pivot_of_p()?,
+                "P's factor entry" => self.entry_of_p()?,
+                "points" => self.points()?,
+                "mean" => self.prediction_mean()?,
+                _ => self.prediction_spread()?,
+            },
         }
         if self.random.chance(40) {
             self.say("dump")?;
@@ -66,20 +56,43 @@ impl Maker {
         Ok(())
     }
 
-    /// The solo filter meets every step in turn, those of a correction once for each average.
-    /// On pairs fewer come: mostly one of the call that least often stopped so.
-    fn aim(&mut self) -> usize {
-        if self.on.is_none() {
-            self.aims += 1;
-            return (self.aims % 27) as usize;
+    fn stopped_correction(&mut self, average: Average, step: &str) -> Made<()> {
+        let m = 1 + self.random.below(4);
+        match step {
+            "z mean" => self.z_mean(average, m),
+            "S" => self.innovation(average, m),
+            "x mean" => self.x_mean(average, m),
+            "cross covariance" => self.cross_covariance(average, m),
+            "S's pivot" => self.pivot_of_s(average),
+            "S's factor entry" => self.entry_of_s(average, m.max(2)),
+            "inverse" => self.inverse(average, m),
+            "gain" => self.gain(average, m),
+            "y" => self.y(average, m),
+            "x" => self.corrected_x(average, m),
+            _ => self.corrected_p(average, m),
         }
-        let ways = [("closec", 9, 0), ("closef", 9, 1), ("closec", 8, 8), ("closef", 8, 9), ("openp", 9, 23), ("closep", 9, 25)];
-        let met = ways.map(|(call, number, _)| count(&self.reader.table, &named(self.on, call), number));
-        match ways[self.rare(&met)] {
-            (_, 9, first @ 0..=1) => first + 2 * self.random.below(11),
-            (_, 9, first) => first + self.random.below(2),
-            (_, _, only) => only,
-        }
+    }
+
+    /// A call and the step that is to stop it: mostly that which least often did. (Where one open is stopped, so is the other.)
+    /// On pairs fewer come, so that the call and its number count, whatever the step.
+    fn aim(&mut self) -> (&'static str, &'static str) {
+        let calls = STEPS.into_iter().filter(|(call, _)| *call != "openc" && has(self.on, call));
+        let aims: Vec<(&str, u8, &str)> = calls
+            .flat_map(|(call, steps)| steps.iter().filter(|(number, _)| *number != 3).map(move |(number, step)| (call, *number, *step)))
+            .collect();
+        let met = |(call, number, step): &(&str, u8, &str)| match self.on {
+            On::Side(_) => count(&self.reader.table, &named(self.on, call), *number),
+            _ => count_with(&self.reader.table, &named(self.on, call), *number, step),
+        };
+        let met: Vec<u64> = aims.iter().map(met).collect();
+        let (call, _, step) = aims[self.rare(&met)];
+        (call, step)
+    }
+
+    /// A turn of 180 for some state.
+    pub fn half_circle(&mut self) -> Made<u8> {
+        let i = self.random.below(self.n());
+        self.say(format!("setkind {i} {}", self.kind(Kind::Turn(180.0))))
     }
 
     pub fn set_p(&mut self, p: &[f64]) -> Made<u8> {
@@ -127,53 +140,56 @@ impl Maker {
 
     /// Makes an entry of the factor overflow, and at times the pivot of another column bad: the earlier column decides.
     fn entry_overflows(&mut self, a: &mut [f64], d: usize) {
+        let edges = self.width().edges();
         let column = self.random.below(d.max(2) - 1);
         let other = self.random.below(d);
         if self.random.chance(30) && other != column {
             a[other * d + other] = -1.0;
         }
         if column + 1 < d {
-            a[column * d + column] = TINY;
-            a[(d - 1) * d + column] = self.about(1.0e200);
+            a[column * d + column] = edges.tiny;
+            a[(d - 1) * d + column] = self.about(edges.huge);
         }
     }
 
     fn points(&mut self) -> Made<()> {
-        let n = self.n();
-        let mut x = self.random.vector(n, 1.0);
-        let at = self.random.below(n);
-        // From the last double a small step is enough.
-        let (far, variance, alpha) =
-            self.random.pick(&[(MAX, 1.0e308, 1.0e154), (MAX, 1.0e300, 1.0e150), (MAX, 1.0e300, 1.0e154), (1.5e308, 1.0e308, 1.0e154)]);
-        x[at] = self.random.sign() * far;
+        let (n, edges) = (self.n(), self.width().edges());
+        // What x is to the largest number, and P and alpha to the widest: from the largest number a small step is enough.
+        let (far, p, alpha) = self.random.pick(&[(1.0, 1.0, 1.0), (1.0, 0.01, 0.01), (1.0, 0.01, 1.0), (0.85, 1.0, 1.0)]);
+        let (mut x, mut variances, at) = (self.random.vector(n, 1.0), diagonal(n, 1.0), self.random.below(n));
+        x[at] = self.random.sign() * far * self.width().largest();
+        variances[at * n + at] = p * edges.wide;
         self.set_x(&x)?;
-        let mut p = diagonal(n, 1.0);
-        p[at * n + at] = variance;
-        self.set_p(&p)?;
-        let par = Params { alpha, beta: 0.0, kappa: 1.0 - n as f64 };
-        self.say(format!("setpar{}", params(par)))?;
+        self.set_p(&variances)?;
+        let par = Params { alpha: alpha * edges.wide.sqrt(), beta: 0.0, kappa: 1.0 - n as f64 };
+        self.say(format!("setpar {}", self.params(par)))?;
         self.open_both()
     }
 
+    /// Two of these overflow in sum.
+    fn far(&self) -> f64 {
+        self.width().largest() / 1.5
+    }
+
     fn prediction_mean(&mut self) -> Made<()> {
-        let (n, i) = (self.n(), self.random.below(self.n()));
+        let (n, i, far) = (self.n(), self.random.below(self.n()), self.far());
         if self.random.chance(30) {
             // The difference overflows before it is wrapped.
-            self.say(format!("setkind {i} t 4066800000000000"))?;
+            self.say(format!("setkind {i} {}", self.kind(Kind::Turn(180.0))))?;
         }
         self.open_prediction()?;
-        let mut moved = self.filter().drawn_points.clone();
-        moved[i] = 1.2e308;
-        moved[n + i] = -1.2e308;
+        let mut moved = self.filter().drawn_points;
+        moved[i] = far;
+        moved[n + i] = -far;
         self.close_prediction(&moved)?;
         Ok(())
     }
 
     fn prediction_spread(&mut self) -> Made<()> {
         self.open_prediction()?;
-        let mut moved = self.filter().drawn_points.clone();
+        let mut moved = self.filter().drawn_points;
         let at = self.random.below(moved.len());
-        moved[at] = self.about(1.0e200);
+        moved[at] = self.about(self.width().edges().huge);
         self.close_prediction(&moved)?;
         Ok(())
     }
@@ -189,19 +205,19 @@ impl Maker {
         let mut r = diagonal(m, 1.0);
         if self.random.chance(40) {
             let j = self.random.below(m);
-            r[j * m + j] = -MAX;
+            r[j * m + j] = -self.width().largest();
         }
         r
     }
 
     fn z_mean(&mut self, average: Average, m: usize) -> Made<()> {
         let mut observed = self.opened_correction(m)?;
-        let j = self.random.below(m);
-        observed[j] = 1.2e308;
+        let (j, far) = (self.random.below(m), self.far());
+        observed[j] = far;
         // The difference from the centre overflows, or the flat sum.
         observed[m + j] = match average {
-            Average::Weighted => -1.2e308,
-            Average::Flat => 1.2e308,
+            Average::Weighted => -far,
+            Average::Flat => far,
         };
         let r = self.noise_of_one(m);
         self.close_correction(average, &vec![0.0; m], &r, &PLAIN[..m], &observed)?;
@@ -211,7 +227,7 @@ impl Maker {
     fn innovation(&mut self, average: Average, m: usize) -> Made<()> {
         let mut observed = self.opened_correction(m)?;
         let at = self.random.below(observed.len());
-        observed[at] = self.about(1.0e200);
+        observed[at] = self.about(self.width().edges().huge);
         let r = self.noise_of_one(m);
         self.close_correction(average, &vec![0.0; m], &r, &PLAIN[..m], &observed)?;
         Ok(())
@@ -230,27 +246,28 @@ impl Maker {
         let n = self.n();
         let p = self.random.covariance(n, 1.0e50);
         self.set_p(&p)?;
-        self.say(format!("setpar{}", params(Params { alpha: 1.0e150, beta: 0.0, kappa: 1.0 - n as f64 })))?;
+        let par = Params { alpha: 1.0e150, beta: 0.0, kappa: 1.0 - n as f64 };
+        self.say(format!("setpar {}", self.params(par)))?;
         Ok(())
     }
 
     fn x_mean(&mut self, average: Average, m: usize) -> Made<()> {
         let n = self.n();
         match average {
-            // A number of x is the largest double, and the weights, rounded as they are, add up to more than 1: they do for about one alpha in four.
+            // A number of x is the largest, and the weights, rounded as they are, add up to more than 1: they do for about one alpha in four.
             Average::Weighted => {
                 let mut x = self.random.vector(n, 1.0);
                 let at = self.random.below(n);
-                x[at] = self.random.sign() * MAX;
+                x[at] = self.random.sign() * self.width().largest();
                 self.set_x(&x)?;
                 let par = loop {
                     let par = Params { alpha: self.random.within(0.58, 0.7), beta: 0.0, kappa: 0.0 };
-                    let weights = Weights::of(n, par);
-                    if (0..2 * n).fold(weights.w0m, |sum, _| sum + weights.wi) > 1.0 {
+                    let weights = self.width().weights(n, par);
+                    if (0..2 * n).fold(weights.w0m, |sum, _| self.width().rounded(sum + weights.wi)) > 1.0 {
                         break par;
                     }
                 };
-                self.say(format!("setpar{}", params(par)))?;
+                self.say(format!("setpar {}", self.params(par)))?;
             }
             // Each point is finite, their sum isn't.
             Average::Flat => {
@@ -279,8 +296,9 @@ impl Maker {
             // For z it lies on the other side, so in the cross covariance the products add up.
             Average::Weighted => {
                 let (n, sign) = (self.n(), self.random.sign());
-                self.say(format!("setpar{}", params(Params { alpha: 1.0, beta: -1.0, kappa: 0.0 })))?;
-                let (i, centre, pair) = (self.random.below(n), 1.2e154 * sign, 1.25e154 * sign * (n as f64).sqrt());
+                self.say(format!("setpar {}", self.params(Params { alpha: 1.0, beta: -1.0, kappa: 0.0 })))?;
+                let size = self.width().largest().sqrt() * sign;
+                let (i, centre, pair) = (self.random.below(n), 0.9 * size, 0.93 * size * (n as f64).sqrt());
                 self.open_prediction()?;
                 let mut moved = vec![0.0; n * (2 * n + 1)];
                 (moved[i], moved[n + i], moved[(1 + n) * n + i]) = (centre, pair, -pair);
@@ -299,22 +317,26 @@ impl Maker {
         Ok(())
     }
 
-    /// P of this size and `seen` observed at two opposite points, with an R below 0 that leaves 2^-50 of their spread as S.
+    /// P of this size and `seen` observed at two opposite points, with an R below 0 that leaves next to nothing of their spread as S.
     fn nearly_no_noise(&mut self, m: usize, p: f64, seen: f64) -> Made<(Vec<f64>, Vec<f64>)> {
         let n = self.n();
         self.set_p(&diagonal(n, p))?;
         let (observed, j) = self.opposite(m, seen)?;
         let mut r = diagonal(m, 1.0);
-        r[j * m + j] = -2.0 * self.filter().drawn_weights[1] * seen * seen * (1.0 - power(-50));
+        r[j * m + j] = -2.0 * self.filter().drawn_weights[1] * seen * seen * (1.0 - power(self.width().edges().left));
         Ok((observed, r))
     }
 
-    fn pivot_of_s(&mut self, average: Average, m: usize) -> Made<()> {
+    fn pivot_of_s(&mut self, average: Average) -> Made<()> {
         self.open_correction()?;
-        // Refused, the call stays open for more.
+        self.pivots_of_s(average)
+    }
+
+    /// Refused, the call stays open for more.
+    pub fn pivots_of_s(&mut self, average: Average) -> Made<()> {
         for _ in 0..3 {
             let row = self.rare_row(close_of(average), 8, 4);
-            let m = m.max(row + 1);
+            let m = (row + 1).max(1 + self.random.below(4));
             let (mut observed, mut z) = (vec![0.0; m * (2 * self.n() + 1)], vec![0.0; m]);
             let mut r = self.random.covariance(m, 1.0);
             self.bad_pivot(&mut r, m, row);
@@ -339,14 +361,18 @@ impl Maker {
         let observed = self.opened_correction(m)?;
         let mut r = diagonal(m, 1.0);
         let j = self.random.below(m);
-        r[j * m + j] = self.random.pick(&[1.0e-310, f64::from_bits(1), 1.0e-309]);
+        let width = self.width();
+        r[j * m + j] = self.random.pick(&[width.normal() / 16.0, width.normal() / 256.0, width.smallest()]);
         self.close_correction(average, &vec![0.0; m], &r, &PLAIN[..m], &observed)?;
         Ok(())
     }
 
     fn gain(&mut self, average: Average, m: usize) -> Made<()> {
         let (observed, r) = match average {
-            Average::Weighted => self.nearly_no_noise(m, power(1020), power(-470))?,
+            Average::Weighted => {
+                let [p, seen] = self.width().edges().gain.map(power);
+                self.nearly_no_noise(m, p, seen)?
+            }
             Average::Flat => {
                 self.far_points()?;
                 let mut observed = self.opened_correction(m)?;
@@ -366,11 +392,11 @@ impl Maker {
     fn far_apart(&mut self, observed: &mut [f64], z: &mut [f64]) -> usize {
         let (m, j) = (z.len(), self.random.below(z.len()));
         // A power of two, so small that its sum over all points is finite: every mean is exact.
-        let far = self.random.sign() * power(1019);
+        let far = self.random.sign() * self.width().top() / 16.0;
         for at in (j..observed.len()).step_by(m) {
             observed[at] = far;
         }
-        z[j] = -MAX * far.signum();
+        z[j] = -self.width().largest() * far.signum();
         j
     }
 
@@ -389,12 +415,12 @@ impl Maker {
         let n = self.n();
         self.set_p(&diagonal(n, 1.0e20))?;
         let mut observed = self.opened_correction(m)?;
-        let (i, j) = (self.random.below(n), self.random.below(m));
+        let (i, j, drawn) = (self.random.below(n), self.random.below(m), self.filter().drawn_points);
         for k in 0..2 * n + 1 {
-            observed[k * m + j] = self.filter().drawn_points.get(k * n + i).copied().unwrap_or(0.0) * 1.0e-10;
+            observed[k * m + j] = drawn[k * n + i] * 1.0e-10;
         }
         let mut z = vec![0.0; m];
-        z[j] = self.about(1.0e300);
+        z[j] = self.about(self.width().edges().remote);
         self.close_correction(average, &z, &diagonal(m, 0.01), &PLAIN[..m], &observed)?;
         Ok(())
     }
@@ -403,7 +429,7 @@ impl Maker {
         // z meets its mean, so that x stays.
         let mut z = vec![0.0; m];
         let (observed, r) = match average {
-            Average::Weighted => self.nearly_no_noise(m, power(1000), 1.0)?,
+            Average::Weighted => self.nearly_no_noise(m, power(self.width().edges().spread), 1.0)?,
             Average::Flat => {
                 self.far_points()?;
                 let mut observed = self.opened_correction(m)?;

@@ -1,24 +1,31 @@
-//! What only pairs have: two sides that take turns, calls open on both at once, sheet changes through either, and lines that name no side.
+//! What only pairs have: two sides that take turns, calls open on both at once, and sheet changes through either.
 
 use oracle::pair::Side;
-use oracle::script::SHEET;
+use oracle::script::{On, SHEET};
 
 use crate::maker::{Made, Maker};
 
 impl Maker {
     /// On a pair the turn goes to either side.
     pub fn turn(&mut self) {
-        if self.on.is_some() {
-            self.on = Some(self.random.pick(&Side::BOTH));
+        if self.paired() {
+            self.on = On::Side(self.random.pick(&Side::BOTH));
         }
     }
 
-    /// While a call is open on one side: something at its partner. Says no on the solo filter, which has none.
+    /// The side whose turn it isn't; others stay.
+    fn turn_to_partner(&mut self) {
+        if let On::Side(side) = self.on {
+            self.on = On::Side(side.partner());
+        }
+    }
+
+    /// While a call is open on one side: something at its partner. Says no on a filter that has none.
     pub fn at_the_partner(&mut self, unit: f64) -> Made<bool> {
-        let Some(side) = self.on else {
+        let On::Side(side) = self.on else {
             return Ok(false);
         };
-        self.on = Some(side.partner());
+        self.on = On::Side(side.partner());
         let shut = self.shut();
         match self.random.below(14) {
             0..=1 if shut => self.prediction(unit)?,
@@ -43,7 +50,7 @@ impl Maker {
                 self.say("dump")?;
             }
         }
-        self.on = Some(side);
+        self.on = On::Side(side);
         Ok(true)
     }
 
@@ -51,7 +58,7 @@ impl Maker {
     pub fn tuned_pair(&mut self, unit: f64) -> Made<()> {
         self.prediction(unit)?;
         if self.random.chance(40) {
-            self.on = self.on.map(Side::partner);
+            self.turn_to_partner();
             self.end(unit)?;
             self.prediction(unit)?;
         }
@@ -59,7 +66,7 @@ impl Maker {
             self.turn();
             self.refused_set(&SHEET)?;
         }
-        for _ in 0..self.random.between(1, 2) {
+        for _ in 0..self.random.between(1, 3) {
             self.change(unit)?;
         }
         self.turn();
@@ -72,9 +79,9 @@ impl Maker {
     pub fn change(&mut self, unit: f64) -> Made<()> {
         let ways: Vec<(Side, &str)> = Side::BOTH.iter().flat_map(|side| SHEET.map(|call| (*side, call))).collect();
         let numbers: &[u8] = if self.n() == 0 { &[1] } else { &[0, 3] };
-        let met: Vec<u64> = ways.iter().map(|(side, call)| self.met(Some(*side), call, numbers)).collect();
+        let met: Vec<u64> = ways.iter().map(|(side, call)| self.met(On::Side(*side), call, numbers)).collect();
         let (side, call) = ways[self.rare(&met)];
-        let before = self.on.replace(side);
+        let before = std::mem::replace(&mut self.on, On::Side(side));
         self.set(call, unit)?;
         self.on = before;
         Ok(())
@@ -85,9 +92,9 @@ impl Maker {
         if self.random.chance(80) {
             return Ok(());
         }
-        for _ in 0..if self.on.is_some() { 2 } else { 1 } {
+        for _ in 0..if self.paired() { 2 } else { 1 } {
             self.say("readstale")?;
-            self.on = self.on.map(Side::partner);
+            self.turn_to_partner();
         }
         Ok(())
     }
@@ -95,33 +102,9 @@ impl Maker {
     /// Now and then those who had no part in an episode are looked at.
     pub fn bystander(&mut self) -> Made<()> {
         if self.random.chance(10) {
-            self.on = if self.on.is_some() { None } else { Some(self.random.pick(&Side::BOTH)) };
+            self.turn_to_another();
             self.say("dump")?;
         }
-        Ok(())
-    }
-
-    /// A line that names no side, or no call that a side takes.
-    pub fn bad_side(&mut self) -> Made<()> {
-        let line = self.random.pick(&[
-            "@1",
-            "@2 # dump",
-            "@3 dump",
-            "@0 readstale",
-            "@1dump",
-            "@ 1 dump",
-            "@1 @2 dump",
-            "@1 @1 readstale",
-            "@2 abandon now",
-            "@1 openp",
-            "@2 root 4010000000000000",
-            "@1 wrap 4010000000000000 4010000000000000",
-            "@2 point 1 0 3 4010000000000000 4010000000000000 4010000000000000",
-            "@1 new 0 0 0 0 0000000000000000 0000000000000000 0000000000000000",
-            "@2 newpair 0 0 0 0 0 0 0000000000000000 0000000000000000 0000000000000000",
-            "newpair 0 0 0 0 0 0000000000000000 0000000000000000 0000000000000000",
-        ]);
-        self.tell(line)?;
         Ok(())
     }
 }

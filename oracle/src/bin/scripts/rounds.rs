@@ -3,9 +3,9 @@
 use oracle::filter::{list_length, Open};
 use oracle::kinds::Kind;
 use oracle::script::SETTERS;
-use oracle::steps::{Average, Weights};
+use oracle::steps::Average;
 
-use crate::maker::{kind, params, Fault, Made, Maker};
+use crate::maker::{Fault, Made, Maker};
 
 impl Maker {
     pub fn episode(&mut self, n: usize, turns: bool) -> Made<()> {
@@ -18,7 +18,7 @@ impl Maker {
                 self.end(unit)?;
                 continue;
             }
-            match self.random.below(if self.on.is_some() { 26 } else { 20 }) {
+            match self.random.below(if self.paired() { 26 } else { 20 }) {
                 0..=5 => self.prediction(unit)?,
                 6 => {
                     // Tuned between a prediction and a fix.
@@ -55,13 +55,11 @@ impl Maker {
 
     /// The size of the states: a power of two, mostly about 1, at times where squares are subnormal or nearly overflow.
     pub fn unit(&mut self) -> f64 {
-        let exponent = match self.random.below(10) {
-            0 => self.random.between(-530, -500),
-            1 => self.random.between(470, 500),
-            2 => self.random.between(-200, 200),
-            _ => self.random.between(-3, 3),
+        let [low, high] = match self.random.below(10) {
+            at @ 0..=2 => self.width().edges().units[at],
+            _ => [-3, 3],
         };
-        power(exponent)
+        power(self.random.between(low, high))
     }
 
     /// A new filter or pair, at times with turns among its kinds.
@@ -73,7 +71,7 @@ impl Maker {
                 if self.random.chance(40) {
                     self.turn();
                     let h = self.random.half_turn(unit);
-                    self.say(format!("setkind {i} {}", kind(Kind::Turn(h))))?;
+                    self.say(format!("setkind {i} {}", self.kind(Kind::Turn(h))))?;
                 }
             }
         }
@@ -148,7 +146,7 @@ impl Maker {
     }
 
     /// m numbers of each point, as an instrument might show them.
-    fn seen(&mut self, points: &[f64], m: usize, measured: &[Kind], unit: f64, gauge: f64) -> Vec<f64> {
+    fn seen(&mut self, points: &[f64], m: usize, measured: &[Kind<f64>], unit: f64, gauge: f64) -> Vec<f64> {
         let n = self.n();
         let forms: Vec<(usize, usize, usize, f64)> =
             (0..m).map(|_| (self.random.below(5), self.random.below(n), self.random.below(n), self.random.within(-2.0, 2.0))).collect();
@@ -170,7 +168,9 @@ impl Maker {
     }
 
     pub fn prediction(&mut self, unit: f64) -> Made<()> {
-        self.refused_open("openp")?;
+        if self.random.chance(6) {
+            self.short_open("openp")?;
+        }
         if self.open_prediction()? != 0 {
             return self.mended(unit);
         }
@@ -188,7 +188,7 @@ impl Maker {
     }
 
     fn end_prediction(&mut self, unit: f64) -> Made<()> {
-        let drawn = self.filter().drawn_points.clone();
+        let drawn = self.filter().drawn_points;
         let propagated = self.moved(&drawn, unit);
         if self.random.chance(20) {
             self.faulty_close_prediction(&propagated)?;
@@ -204,14 +204,20 @@ impl Maker {
             }
             return self.abandoned();
         }
-        if self.random.chance(if self.on.is_some() { 35 } else { 20 }) {
+        if self.random.chance(if self.paired() { 35 } else { 20 }) {
             self.reading()?;
+        }
+        if self.random.chance(10) {
+            // On points in use.
+            self.refused_setter()?;
         }
         Ok(())
     }
 
     pub fn correction(&mut self, unit: f64) -> Made<()> {
-        self.refused_open("openc")?;
+        if self.random.chance(6) {
+            self.short_open("openc")?;
+        }
         if self.open_correction()? != 0 {
             return self.mended(unit);
         }
@@ -222,17 +228,18 @@ impl Maker {
     fn end_correction(&mut self, unit: f64) -> Made<()> {
         let average = self.average();
         let m = self.measurements(average);
+        let edges = self.width().edges();
         let gauge = match self.random.below(10) {
             // So small that the inverse of S would overflow: measured in larger numbers.
-            0..=8 if unit < 1.0e-140 => power(self.random.between(20, 60)),
+            0..=8 if unit < power(edges.small) => power(self.random.between(edges.raised[0], edges.raised[1])),
             0..=7 => 1.0,
-            _ => power(self.random.between(-20, 20)),
+            _ => power(self.random.between(-edges.gauge, edges.gauge)),
         };
         let size = unit * gauge;
         let turns = if average == Average::Flat { 0 } else { 25 };
-        let measured: Vec<Kind> =
+        let measured: Vec<Kind<f64>> =
             (0..m).map(|_| if self.random.chance(turns) { Kind::Turn(self.random.half_turn(size)) } else { Kind::Plain }).collect();
-        let drawn = self.filter().drawn_points.clone();
+        let drawn = self.filter().drawn_points;
         let mut observed = self.seen(&drawn, m, &measured, unit, gauge);
         if self.random.chance(5) {
             self.zeros(&mut observed, m);
@@ -276,16 +283,16 @@ impl Maker {
     fn mended(&mut self, unit: f64) -> Made<()> {
         self.after_refusal()?;
         let n = self.n();
-        if self.on.is_none() && self.random.chance(20) {
+        if !self.paired() && self.random.chance(20) {
             let turns = self.random.chance(50);
             return self.fresh(n, unit, turns);
         }
         let p = self.random.covariance(n, unit);
         let line = format!("setp {}", self.list(&p, Fault::None));
         self.say(line)?;
-        if Weights::of(n, self.filter().par).total > 1.0e9 {
+        if self.width().weights(n, self.filter().par).total > 1.0e9 {
             let par = self.random.params(n);
-            self.say(format!("setpar{}", params(par)))?;
+            self.say(format!("setpar {}", self.params(par)))?;
         }
         Ok(())
     }
@@ -305,7 +312,7 @@ impl Maker {
 
     /// Calls while another is open: readings pass, the rest waits.
     fn meanwhile(&mut self, unit: f64) -> Made<()> {
-        if self.random.chance(if self.on.is_some() { 40 } else { 80 }) {
+        if self.random.chance(if self.paired() { 40 } else { 80 }) {
             return Ok(());
         }
         for _ in 0..self.random.between(1, 3) {
@@ -327,7 +334,7 @@ impl Maker {
 
     /// Sets something to what passes, as far as nothing is open; on a pair as often as not on its sheet.
     pub fn setter(&mut self, unit: f64) -> Made<()> {
-        if self.on.is_some() && self.random.chance(50) {
+        if self.paired() && self.random.chance(50) {
             return self.change(unit);
         }
         let number = match (self.n(), self.shut()) {
@@ -341,7 +348,7 @@ impl Maker {
 
     /// What a call sets on a filter alone: on a side not what is on the sheet.
     pub fn setters(&self) -> &'static [&'static str] {
-        if self.on.is_some() {
+        if self.paired() {
             &SETTERS[..2]
         } else {
             &SETTERS
@@ -353,18 +360,21 @@ impl Maker {
         let (n, again) = (self.n(), self.n() > 0 && self.random.chance(15));
         let line = match call {
             "setx" => {
-                let x = if again { self.filter().x.clone() } else { self.random.vector(n, unit) };
+                let x = if again { self.filter().x } else { self.random.vector(n, unit) };
                 format!("setx {}", self.list(&x, Fault::None))
             }
             "setp" => {
-                let p = if again { self.filter().p.clone() } else { self.random.covariance(n, unit) };
+                let p = if again { self.filter().p } else { self.random.covariance(n, unit) };
                 format!("setp {}", self.list(&p, Fault::None))
             }
             "setq" => {
-                let q = if again { self.filter().q.clone() } else { self.random.noise(n, unit) };
+                let q = if again { self.filter().q } else { self.random.noise(n, unit) };
                 format!("setq {}", self.list(&q, Fault::None))
             }
-            "setpar" => format!("setpar{}", params(if again { self.filter().par } else { self.random.params(n) })),
+            "setpar" => {
+                let par = if again { self.filter().par } else { self.random.params(n) };
+                format!("setpar {}", self.params(par))
+            }
             _ => {
                 let i = self.random.below(n.max(1));
                 let new = if again {
@@ -374,7 +384,7 @@ impl Maker {
                 } else {
                     Kind::Turn(self.random.half_turn(unit))
                 };
-                format!("setkind {i} {}", kind(new))
+                format!("setkind {i} {}", self.kind(new))
             }
         };
         self.say(line)?;
@@ -383,15 +393,20 @@ impl Maker {
 
     /// A reading with a buffer that fits, is short, or is longer.
     pub fn reading(&mut self) -> Made<()> {
-        let n = self.n();
         let name = self.rare_call(&["readx", "readp", "readq", "readpts", "readpar", "readstale"], &[0, 1]);
+        let short = self.random.chance(25);
+        self.read(name, short)
+    }
+
+    pub fn read(&mut self, name: &str, short: bool) -> Made<()> {
+        let n = self.n();
         let needed = match name {
             "readx" => n,
             "readp" | "readq" => n * n,
             "readpts" => list_length(n),
             _ => return self.say(name).map(|_| ()),
         };
-        let length = if self.random.chance(25) { self.short_length(needed) } else { self.length(needed) };
+        let length = if short { self.short_length(needed) } else { self.length(needed) };
         self.say(format!("{name} {length}"))?;
         Ok(())
     }

@@ -1,10 +1,10 @@
 //! Bad numbers in every slice that a call searches, and bad pivots in every row: where the first one stands, and what else is bad.
 
-use oracle::coverage::{count_with, searches, slices_of};
+use oracle::coverage::{count_with, has, searches, slices_of};
 use oracle::kinds::Kind;
 use oracle::places::{self, AFTER_PARAM, AFTER_PLAIN, SEVERAL, SPOTS};
 use oracle::script::named;
-use oracle::steps::{Average, Params};
+use oracle::steps::Params;
 
 use crate::faults::faults_of;
 use crate::maker::{close_of, Fault, Made, Maker};
@@ -19,7 +19,11 @@ pub struct Spot {
 impl Maker {
     /// A call's name in the tables; New and point have no side.
     pub fn name_of(&self, call: &str) -> String {
-        named(self.on.filter(|_| !["new", "newpair", "point"].contains(&call)), call)
+        if has(self.on, call) {
+            named(self.on, call)
+        } else {
+            call.into()
+        }
     }
 
     /// How often a call with this number has shown such a thing.
@@ -57,7 +61,7 @@ impl Maker {
     }
 
     /// Parameters of which one at least isn't finite.
-    pub fn bad_params(&mut self, call: &str, par: Params) -> Params {
+    pub fn bad_params(&mut self, call: &str, par: Params<f64>) -> Params<f64> {
         let (mut three, spot) = (par.numbers(), self.spot(call, 56));
         self.spoil(&mut three, spot);
         let [alpha, beta, kappa] = three;
@@ -65,7 +69,7 @@ impl Maker {
     }
 
     /// Half-turns of which one at least isn't finite, among plain kinds and half-turns that 6 would refuse.
-    pub fn bad_half_turns(&mut self, measured: &mut [Kind]) {
+    pub fn bad_half_turns(&mut self, measured: &mut [Kind<f64>]) {
         let (mut halves, spot) = (vec![0.0; measured.len()], self.spot("closec", 56));
         self.spoil(&mut halves, spot);
         let met = [AFTER_PLAIN, AFTER_PARAM].map(|word| self.has_shown("closec", 56, word));
@@ -119,11 +123,12 @@ impl Maker {
 
     /// Makes the pivot of a row bad, those above it being good: not above 0, or not finite.
     pub fn bad_pivot(&mut self, a: &mut [f64], d: usize, row: usize) {
-        a[row * d + row] = self.random.pick(&[0.0, -0.0, -1.0, -f64::from_bits(1), -f64::MAX]);
+        let width = self.width();
+        a[row * d + row] = self.random.pick(&[0.0, -0.0, -1.0, -width.smallest(), -width.largest()]);
         if row > 0 && self.random.chance(40) {
             // The square of an entry overflows.
             a[row * d + row] = 1.0;
-            a[row * d] = self.about(1.0e160);
+            a[row * d] = self.about(width.edges().huge);
         }
         if self.random.chance(30) {
             // A later one too, which is never come to.
@@ -132,7 +137,7 @@ impl Maker {
         }
     }
 
-    /// Refused calls one after the other, each mostly with what its call has shown least. They change nothing, so that a few of them show much.
+    /// Refused calls one after the other, each mostly with what its call has shown least.
     pub fn refused_searches(&mut self, n: usize) -> Made<()> {
         // Three places have a first one, one between and a last one.
         let n = n.max(3).max(1 + self.rare_row("openp", 7, 8));
@@ -147,34 +152,46 @@ impl Maker {
             let met = setters.map(|(call, number)| self.least(call, number));
             let (call, number) = setters[self.rare(&met)];
             self.faulty_set(call, number)?;
+            self.refused_setter()?;
         }
-        self.pivot_of_p()?;
+        for _ in 0..3 {
+            self.pivot_of_p()?;
+        }
         let p = self.random.covariance(n, 1.0);
         self.set_p(&p)?;
+        for call in ["openp", "openc"] {
+            self.short_open(call)?;
+        }
+        for call in ["readx", "readp", "readq", "readpts"] {
+            self.read(call, true)?;
+        }
         self.open_prediction()?;
+        for call in ["openp 136", "openc 136"] {
+            self.say(call)?;
+        }
+        self.wrong_close()?;
         for _ in 0..2 {
-            let (points, spot) = (self.filter().drawn_points.clone(), self.spot("closep", 54));
+            let (points, spot) = (self.filter().drawn_points, self.spot("closep", 54));
             let line = format!("closep {}", self.list(&points, Fault::Number(spot)));
             self.say(line)?;
         }
         self.say("abandon")?;
         if self.random.chance(50) {
-            // The flat close would be refused for it.
-            let i = self.random.below(n);
-            self.say(format!("setkind {i} t 4066800000000000"))?;
+            // A flat close would be refused for it.
+            self.half_circle()?;
         }
         self.open_correction()?;
         for _ in 0..6 {
-            let averages = [Average::Weighted, Average::Flat];
-            let met = averages.map(|average| {
-                let call = close_of(average);
-                slices_of(call).iter().map(|number| self.least(call, *number)).min().unwrap_or(0)
-            });
+            let averages = self.averages();
+            let least = |call| slices_of(call).iter().map(|number| self.least(call, *number)).min().unwrap_or(0);
+            let met: Vec<u64> = averages.iter().map(|average| least(close_of(*average))).collect();
             let (average, m) = (averages[self.rare(&met)], self.random.pick(&[3, 4]));
             let (z, r, observed) = (vec![0.0; m], self.random.covariance(m, 1.0), vec![0.0; m * (2 * n + 1)]);
             let faults = self.bad_slices(close_of(average), faults_of(average));
             self.faulty_close(average, &faults, &z, &r, &[Kind::Plain; 4][..m], &observed)?;
         }
+        let average = self.average();
+        self.pivots_of_s(average)?;
         self.say("abandon")?;
         Ok(())
     }
