@@ -1,6 +1,6 @@
 -- Demand 2: every number is worked out by document 01's steps, and the flat close's by those of document 02, bit for bit. The contracts say it: each names one definition, and says that all of the answer is it.
--- Here is a line for each step, which function's contract names which definition; under it, where the definition is not the document's own text, a law that it comes to that. Over every format. Assumes nothing.
-use Prim.Native.Nat.{ℕ, _+_, _-_, _*_, _<_, _≤_}
+-- Here is a line for each step, which function's contract names which definition (crates by their f64 names: at f32 the namesake's, at binary32); under it, where the definition is not the document's own text, a law that it comes to that. Over every format. Assumes nothing.
+use Prim.Native.Nat.{ℕ, zero, suc, _+_, _-_, _*_, _<_, _≤_}
 use mathlib.Core.Path.{_≡_, refl, sym, ap, _∙_}
 use mathlib.Core.Bool.{true, false}
 use mathlib.Core.List.{List}
@@ -11,6 +11,7 @@ use lib.IntN.{pos}
 use lib.ListN.{getD, take}
 use lib.Ieee.{Float, nan, Format, binary64, fits, add, sub, mul, div, ofInt}
 use lib.Ieee.Scale.{finite}
+use lib.Ieee.Fits.{add-fits, sub-fits, mul-fits, div-fits}
 use Rattle.floats.specs.Refusal.{Refusal, PIVOT, taken, Outcome, accepted}
 use Rattle.floats.specs.Numbers.{plusZero, zeros}
 use Rattle.floats.specs.Fronts.{front}
@@ -66,7 +67,7 @@ at l i = getD l i nan
 cell-before : (i k n j : ℕ) → i < k → j < n → i * n + j < k * n
 cell-before i k n j h l = omega (arith, row-before i k n h)
 
--- ---- Root: `square_root` (crate root) is `rootOutcome`: `rootOf`, or 56 at 0
+-- ---- Root: `square_root` (crates root, root32) is `rootOutcome`: `rootOf`, or 56 at 0
 
 -- no value of the format is nearer to the exact root
 pub root-nearest : (f : Format) (x : Float) → T (fits f x) → T (rooted x) → Nearest f x (rootOf f x)
@@ -93,6 +94,17 @@ module _ (f : Format) where
   -- so does a finite difference passed through a turn that has passed its check
   pub turn-is-exact : (h d : Float) → T (fits f d) → T (finite d) → T (fits f h) → kindOf f (record { residual = Turn h }) ≡ accepted (record { residual = Turn h }) → Wraps f d h (throughOf f (record { residual = Turn h }) d)
   turn-is-exact = through-exact f
+
+  -- ---- What the steps work out is always a value of the format, so that the two laws above speak of it: of every pivot's root, and of every difference passed through a turn
+
+  pub operations-held : (x y : Float) → T (fits f (add f x y)) × T (fits f (sub f x y)) × T (fits f (mul f x y)) × T (fits f (div f x y))
+  operations-held x y = (add-fits f x y, sub-fits f x y, mul-fits f x y, div-fits f x y)
+
+  -- a pivot: what a value of the format is less products in turn
+  pub pivot-held : (a : Float) (e : ℕ → Float) (j : ℕ) → T (fits f a) → T (fits f (totalOf (sub f) a e j))
+  unfolding totalOf
+  pivot-held a e zero h = h
+  pivot-held a e (suc j) h = sub-fits f (totalOf (sub f) a e j) (e j)
 
   -- ---- Weights: `compute_weights` (crate sigma) is `lambdaOf`, `scaleOf`, `w0mOf`, `w0cOf` and `wiOf`, the document's own lines; `weights` is `weightsOf`
 

@@ -36,13 +36,13 @@ use Rattle.demands.proofs.Leftover.{nothing-left-over}
 
 -- ---- two alike filters: the filter of C9, and the same with points, weights and scratch put at will
 
-pub alike : Alike (at-first binary64) at-will
+pub alike : Alike (at-first binary64) (at-will binary64)
 unfolding newOf allFinite aboveZero lt weightsPass lambdaOf scaleOf w0mOf w0cOf wiOf ofInt add sub mul div inRange
 alike = record { sheet = refl; track = record { x = refl; p = refl; stale₁ = refl; stale₂ = refl; shut₁ = refl; shut₂ = refl } }
 
 -- the second is one that the demands speak of
-pub at-will-yielded : Yielded binary64 at-will
-at-will-yielded = put-at-will at-will (fresh-made 1 (int 2 ∷ []) (int 4 ∷ []) (int 1 ∷ []) c1) alike
+pub at-will-yielded : Yielded binary64 (at-will binary64)
+at-will-yielded = put-at-will (at-will binary64) (fresh-made 1 (int 2 ∷ []) (int 4 ∷ []) (int 1 ∷ []) c1) alike
 
 -- ---- what is computed
 
@@ -65,10 +65,10 @@ drew (t ∷ ts) = t .reply .given are (int 2 ∷ int 4 ∷ int 0 ∷ [])
 pub record Computed : Type 0 where
   -- the leftovers of the two differ: points, weights, and scratch
   pub first-left : (leftovers (at-first binary64 .track) are (int 0 ∷ int 0 ∷ int 0 ∷ int 0 ∷ [])) ≡ true
-  pub will-left : (leftovers (at-will .track) are (int 3 ∷ int 7 ∷ int 6 ∷ int 7 ∷ [])) ≡ true
+  pub will-left : (leftovers (at-will binary64 .track) are (int 3 ∷ int 7 ∷ int 6 ∷ int 7 ∷ [])) ≡ true
   -- what a run tells is not constant: two predictions on one filter that end at different x
-  pub ends-at-2 : (lastX (told binary64 at-will (predicted (int 2) (int 4) (int 0))) are (int 2 ∷ [])) ≡ true
-  pub ends-at-3 : (lastX (told binary64 at-will (predicted (int 3) (int 5) (int 1))) are (int 3 ∷ [])) ≡ true
+  pub ends-at-2 : (lastX (told binary64 (at-will binary64) (predicted (int 2) (int 4) (int 0))) are (int 2 ∷ [])) ≡ true
+  pub ends-at-3 : (lastX (told binary64 (at-will binary64) (predicted (int 3) (int 5) (int 1))) are (int 3 ∷ [])) ≡ true
   -- calls lead to filters that aren't stale, and to such with a correction open
   pub in-use : ranTo binary64 (at-first binary64) (predicted (int 2) (int 4) (int 0)) .track .stale ≡ false
   pub still-open : isCorrecting (ranTo binary64 (at-first binary64) (predicted (int 2) (int 4) (int 0) ++ (setting (open-correction three) ∷ [])) .track .stage) ≡ true
@@ -82,7 +82,7 @@ pub record Computed : Type 0 where
   pub first-only-x : (lastX (toldBy firstOnly (at-first binary64) (predicted (int 2) (int 4) (int 0) ++ (corrected (int 3) ++ corrected (frac 17 4)))) are (frac 45 16 ∷ [])) ≡ true
   -- it draws afresh on the first of the two alike filters and not on the second
   pub first-drew : drew (toldBy firstOnly (at-first binary64) (corrected (int 3))) ≡ true
-  pub will-drew : drew (toldBy firstOnly at-will (corrected (int 3))) ≡ false
+  pub will-drew : drew (toldBy firstOnly (at-will binary64) (corrected (int 3))) ≡ false
 
 pub computed : Computed
 unfolding halfTurn wrapStep brought _is_ _are_ ofInt toBits add sub mul rem div neg lt le size odd allFinite aboveZero zeros front rootOf rooted rootUnits nearRoot floorRoot totalOf placesOf builtOf rowOf rowsOf worked run rowsFrom columnOf columnsFrom unitAt lambdaOf scaleOf w0mOf w0cOf wiOf weightsPass pointAt inRange guarded searched searchedFrom step newOf tells told ranTo toldBy
@@ -122,7 +122,7 @@ refusing-stopped r e =
 
 -- One that redraws at the first correction only breaks demand 3: on two alike filters it hands out different points.
 pub first-only-stopped : NothingLeftOver firstOnly → ⊥
-first-only-stopped e = two-ways (computed .first-drew) (ap drew (e (at-first binary64) at-will alike (corrected (int 3))) ∙ computed .will-drew)
+first-only-stopped e = two-ways (computed .first-drew) (ap drew (e (at-first binary64) (at-will binary64) alike (corrected (int 3))) ∙ computed .will-drew)
 
 -- The right build keeps both.
 pub right-exactly : ExactlyWhen right

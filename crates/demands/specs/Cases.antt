@@ -1,11 +1,11 @@
--- THE TABLE OF CASES: document 01's numbers to check by hand, C1 to C12, and a run each for document 02's A1 (the flat close), A3 (settings mark stale), A4 (a pair on one sheet) and A5 (where the bad number is); each a name and a test that antt computes. At f64, and at f32 all but A1 and A4 (A6). Definitions only.
+-- THE TABLE OF CASES: document 01's numbers to check by hand, C1 to C12, and a run each for document 02's A1 (the flat close), A3 (settings mark stale), A4 (a pair on one sheet) and A5 (where the bad number is); each a name and a test that antt computes. At f64, and at f32 (A6) all but what is of the flat close or of a pair; with numbers of its own where the width shows. Definitions only.
 use Prim.Native.Nat.{ℕ, _+_}
 use Prim.Native.String.{String}
 use mathlib.Core.Bool.{Bool, true, false, _&&_, Bool·beq}
 use mathlib.Core.List.{List, [], _∷_, _++_, map}
 use lib.ListN.{length, take, drop, getD, set, replicate}
 use lib.Dec.{eqb}
-use lib.Ieee.{Float, nan, inf, Format, binary32, binary64, prec, ofBits, neg}
+use lib.Ieee.{Float, nan, inf, Format, binary32, binary64, ofBits, neg}
 use Rattle.floats.specs.declared.Verdict.{Verdict}
 use Rattle.floats.specs.Refusal.{PIVOT, placeless, taken, Outcome, refused, accepted, refusal, or}
 use Rattle.floats.specs.Numbers.{zeros}
@@ -17,7 +17,7 @@ use Rattle.angles.specs.declared.Kind.{Kind}
 use Rattle.angles.specs.declared.Residual.{Residual}
 use Rattle.angles.specs.declared.Residual.the-variants.{Plain, Turn}
 use Rattle.matrix.specs.Results.{Result, numbers, pivot, rooting, worked, results}
-use Rattle.matrix.specs.Sums.{plusOf}
+use Rattle.matrix.specs.Sums.{dotOf, plusOf, minusOf}
 use Rattle.matrix.specs.Factor.{factorOf}
 use Rattle.sigma.specs.declared.Params.{Params}
 use Rattle.sigma.specs.Weights.{lambdaOf, scaleOf, w0mOf, w0cOf, wiOf, weightsOf}
@@ -334,19 +334,44 @@ against [] ts = []
 against (e ∷ es) [] = (e .0, false) ∷ against es []
 against (e ∷ es) (t ∷ ts) = (e .0, agrees t (e .1 .1)) ∷ against es ts
 
--- ---- what hangs on the format: C5's small number, twice the exponent of its root; the root of 2; and what makes an entry of a factor too large, 2 ^ −(2k) under a root and 2 ^ j divided by that
+-- ---- what hangs on the format, written out for each
 
-abbrev pub halfLow : Format → ℕ
-halfLow binary32 = 74
-halfLow binary64 = 537
+-- C5's small number is 2 ^ −(2k), and its root 2 ^ −k
+abbrev pub smallRoot : Format → ℕ
+smallRoot binary32 = 74
+smallRoot binary64 = 537
+
+-- the smallest number, and the root of it: at f32 that of 2 is among its digits
+abbrev pub smallest : Format → Float
+smallest binary32 = two-to-minus 149
+smallest binary64 = two-to-minus 1074
+
+abbrev pub rootOfSmallest : Format → Float
+rootOfSmallest binary32 = ofBits binary32 0x1A35_04F3
+rootOfSmallest binary64 = two-to-minus 537
 
 abbrev pub rootOfTwo : Format → Float
 rootOfTwo binary32 = ofBits binary32 0x3FB5_04F3
 rootOfTwo binary64 = ofBits binary64 0x3FF6_A09E_667F_3BCD
 
+-- 1 / 6, the weight of a point of three states
+abbrev pub sixth : Format → Float
+sixth binary32 = ofBits binary32 0x3E2A_AAAB
+sixth binary64 = ofBits binary64 0x3FC5_5555_5555_5555
+
+-- from here on not every whole number is there
+abbrev pub last : Format → Float
+last binary32 = two-to 24
+last binary64 = two-to 53
+
+-- an entry of a factor that is too large: the last pivot's root is 2 ^ −63, or 2 ^ −511
 abbrev pub overflowing : Format → List Float
 overflowing binary32 = rows (two-to-minus 126) (int 0) (two-to 70) (int 1)
 overflowing binary64 = rows (two-to-minus 1022) (int 0) (two-to 600) (int 1)
+
+-- points drawn by a root that isn't exact: a state of 0 with P = 2
+abbrev pub rootStory : Format → List (String × (Call × Told))
+rootStory f = ("A6 drawn by the root of 2", (setting (open-prediction three), telling 0 (int 0 ∷ rootOfTwo f ∷ neg (rootOfTwo f) ∷ []) (int 0) (int 2) true)) ∷ []
 
 -- ---- THE TABLE
 
@@ -366,8 +391,8 @@ module _ (f : Format) where
       ∷ ("C4 N", scaleOf f 1 c4 is int 0)
       ∷ ("C4 refused", says (newAnswer f 1 (int 2 ∷ []) (int 4 ∷ []) (int 1 ∷ []) c4 .refusal) 6 0)
       ∷ ("C5 root of 16", rootIs f (int 16) (int 4))
-      ∷ ("C5 root of 2^−1074, at f32 of 2^−148", rootIs f (two-to-minus (halfLow f + halfLow f)) (two-to-minus (halfLow f)))
-      ∷ ("C5 root of 2", rootIs f (int 2) (rootOfTwo f))
+      ∷ ("C5 root of 2^−1074, at f32 of 2^−148", rootIs f (two-to-minus (smallRoot f + smallRoot f)) (two-to-minus (smallRoot f)))
+      ∷ ("C5 root of 2, at f32 3FB504F3", rootIs f (int 2) (rootOfTwo f))
       ∷ ("C6 350", wrapIs f (int 350) (minus 10))
       ∷ ("C6 190", wrapIs f (int 190) (minus 170))
       ∷ ("C6 180", wrapIs f (int 180) (int 180))
@@ -389,7 +414,11 @@ module _ (f : Format) where
       ∷ ("A5 a turn by a NaN", says (refusal (kindOf f (record { residual = Turn nan }))) 56 0)
       ∷ ("A5 a turn by an infinity", says (refusal (kindOf f (record { residual = Turn (inf true) }))) 56 0)
       ∷ ("A5 a turn by 0", says (refusal (kindOf f (record { residual = Turn (int 0) }))) 6 0)
-      ∷ ("A6 a tie, rounded to even", plusOf f 1 (two-to (prec f) ∷ []) (int 1 ∷ []) are (two-to (prec f) ∷ zeros 63))
+      ∷ ("A6 root of the smallest number", rootIs f (smallest f) (rootOfSmallest f))
+      ∷ ("A6 wi of three states", wiOf f 3 c1 is sixth f)
+      ∷ ("A6 a sum, a tie rounded to even", plusOf f 1 (last f ∷ []) (int 1 ∷ []) are (last f ∷ zeros 63))
+      ∷ ("A6 a difference, the same", minusOf f 1 (last f ∷ []) (frac 1 2 ∷ []) are (last f ∷ zeros 63))
+      ∷ ("A6 a product, half the smallest number", dotOf f (smallest f ∷ []) 0 (frac 1 2 ∷ []) 0 1 is int 0)
       ∷ ("C10 S", take 1 (c10 f .s) are (int 16 ∷ []))
       ∷ ("C10 K", take 1 (gain f (c10 f)) are (frac 1 4 ∷ []))
       ∷ ("C12 mean", take 1 (meanOf f (int 179 ∷ minus 171 ∷ int 169 ∷ []) 1 2 (w0mOf f 1 c1) (weightsOf f 1 c1) (record { residual = Turn (int 180) } ∷ [])) are (int 179 ∷ []))
@@ -397,6 +426,9 @@ module _ (f : Format) where
 
   abbrev pub callCases : List (String × Bool)
   callCases = against story (told f (at-first f) (map (λ e. e .1 .0) story))
+
+  abbrev pub rootCases : List (String × Bool)
+  rootCases = against (rootStory f) (told f (newAnswer f 1 (int 0 ∷ []) (int 2 ∷ []) (int 1 ∷ []) c1 .filter) (map (λ e. e .1 .0) (rootStory f)))
 
   abbrev pub settingCases : List (String × Bool)
   settingCases = against settingStory (told f (at-first f) (map (λ e. e .1 .0) settingStory))
@@ -415,7 +447,7 @@ module _ (f : Format) where
 
   -- of a filter of either width
   abbrev pub filterCases : List (String × Bool)
-  filterCases = leafCases ++ (callCases ++ (settingCases ++ placeCases))
+  filterCases = leafCases ++ (callCases ++ (rootCases ++ (settingCases ++ placeCases)))
 
 -- of the flat close; on two states the run of `placeStory` goes on
 abbrev pub flatCases : List (String × Bool)

@@ -5,7 +5,7 @@ use mathlib.Core.Bool.{Bool, true, false, _&&_, cond}
 use mathlib.Core.List.{List, [], _∷_, _++_, map}
 use mathlib.Core.Logic.{_↔_}
 use lib.ListN.{length, take, getD, replicate}
-use lib.Ieee.{Float, nan, binary64}
+use lib.Ieee.{Float, nan, Format, binary64}
 use Rattle.floats.specs.Refusal.{Refusal, verdict, refused}
 use Rattle.floats.specs.Numbers.{plusZero, zeros}
 use Rattle.matrix.specs.Results.{planned}
@@ -90,8 +90,8 @@ firstOnly s (reading c) = step binary64 s (reading c)
 abbrev pub strewn : Track → Float → Track
 strewn t v = track (t .x) (t .p) (replicate 17 v) (replicate 136 (int 3)) (t .stale) (t .stage) (replicate 17 v) (replicate 136 (int 6))
 
-abbrev pub at-will : Filter
-at-will = filter (at-first binary64 .sheet) (strewn (at-first binary64 .track) (int 7))
+abbrev pub at-will : Format → Filter
+at-will f = filter (at-first f .sheet) (strewn (at-first f .track) (int 7))
 
 -- the first of each
 abbrev pub leftovers : Track → List Float

@@ -7,7 +7,7 @@ use lib.IntN.{pos, negsuc}
 use lib.Dec.{eqb}
 use lib.Ieee.{Float, fin, binary64, ofInt, div, neg, toBits}
 
--- k, −k, and a / b, for numbers that an f32 holds, and so a double: they are the same values in either format
+-- k, −k, and a / b. Every one that is written is a number of both formats, so that one table serves both
 abbrev pub int : ℕ → Float
 int k = ofInt binary64 (pos k)
 
@@ -25,7 +25,7 @@ abbrev pub two-to-minus : ℕ → Float
 two-to-minus zero = two-to 0
 two-to-minus (suc k) = fin false 1 (negsuc k)
 
--- the same bits (each f32 is a double too, so these tell it from every other)
+-- the same bits, as doubles: an f32 is a double too
 infix 50 _is_ _are_
 unfoldable pub _is_ : Float → Float → Bool
 x is y = eqb (toBits binary64 x) (toBits binary64 y)

@@ -1,7 +1,5 @@
 -- Complete contracts at f32: from two answers that one contract allows, their equality. The contract is the function's own (crates/demands/proofs/Complete.antt says how). Assumes nothing.
-use mathlib.Core.Path.{_≡_, refl, ap, _∙_}
-use mathlib.Core.List.{List}
-use lib.Ieee.{Float}
+use mathlib.Core.Path.{refl}
 use Rattle.root.proofs.Answers.{one-case}
 use Rattle.root32.specs.Wide.{wideRoot}
 use Rattle.demands.proofs.Complete.{OneAnswer, OnePart, by, lent}

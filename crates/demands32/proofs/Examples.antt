@@ -1,7 +1,7 @@
 -- Computed examples at f32: alike filters with different leftovers exist, the demands speak of them, and what they tell is not constant. Assumes nothing.
 use mathlib.Core.Path.{_≡_, refl}
 use mathlib.Core.Bool.{true}
-use mathlib.Core.List.{[], _∷_}
+use mathlib.Core.List.{[], _∷_, map}
 use lib.Ieee.{binary32, ofInt, toBits, add, sub, mul, rem, div, neg, lt, le, size, odd}
 use Rattle.floats.specs.Numbers.{allFinite, aboveZero, zeros}
 use Rattle.floats.specs.Search.{searched, searchedFrom}
@@ -11,6 +11,7 @@ use Rattle.angles.specs.Wrap.{halfTurn, wrapStep, brought}
 use Rattle.matrix.specs.Folds.{totalOf, placesOf, builtOf, rowOf, rowsOf}
 use Rattle.matrix.specs.Results.{worked, run}
 use Rattle.matrix.specs.Factor.{rowsFrom, columnOf, columnsFrom}
+use Rattle.matrix.specs.Inverse.{unitAt}
 use Rattle.sigma.specs.Weights.{lambdaOf, scaleOf, w0mOf, w0cOf, wiOf, weightsPass}
 use Rattle.sigma.specs.Draw.{pointAt}
 use Rattle.filter.specs.Asked.{inRange, guarded}
@@ -19,8 +20,8 @@ use Rattle.filter.specs.New.{newOf}
 use Rattle.filter32.specs.declared.Filter.{Filter}
 use Rattle.filter32.specs.Wide.{wideTrack}
 use Rattle.angles32.specs.Wide.{wideKinds}
-use Rattle.demands.specs.Written.{int, _is_, _are_}
-use Rattle.demands.specs.Cases.{at-first, c1}
+use Rattle.demands.specs.Written.{int, _is_, _are_, failing}
+use Rattle.demands.specs.Cases.{at-first, c1, story, against}
 use Rattle.demands.specs.Useless.{at-will, leftovers}
 use Rattle.demands.proofs.Examples.{predicted, lastX}
 use Rattle.demands32.specs.Narrow.{narrowParams, narrowKinds, narrowFilter}
@@ -31,7 +32,7 @@ abbrev first-one : Filter
 first-one = narrowFilter (at-first binary32)
 
 abbrev second-one : Filter
-second-one = narrowFilter at-will
+second-one = narrowFilter (at-will binary32)
 
 pub alike : Alike first-one second-one
 unfolding newOf allFinite aboveZero lt weightsPass lambdaOf scaleOf w0mOf w0cOf wiOf ofInt add sub mul div inRange
@@ -47,7 +48,9 @@ pub record Computed : Type 0 where
   -- two predictions on one filter that end at different x
   pub ends-at-2 : (lastX (told second-one (predicted (int 2) (int 4) (int 0))) are (int 2 ∷ [])) ≡ true
   pub ends-at-3 : (lastX (told second-one (predicted (int 3) (int 5) (int 1))) are (int 3 ∷ [])) ≡ true
+  -- and C9 to C12, called one after the other, tell of the second what they are to tell of the first
+  pub by-the-table : failing (against story (told second-one (map (λ e. e .1 .0) story))) ≡ []
 
 pub computed : Computed
-unfolding halfTurn wrapStep brought _is_ _are_ ofInt toBits add sub mul rem div neg lt le size odd allFinite aboveZero zeros front rootOf rooted rootUnits nearRoot floorRoot totalOf placesOf builtOf rowOf rowsOf worked run rowsFrom columnOf columnsFrom lambdaOf scaleOf w0mOf w0cOf wiOf weightsPass pointAt inRange guarded searched searchedFrom step newOf told wideKinds narrowKinds
-computed = record { first-left = refl; second-left = refl; ends-at-2 = refl; ends-at-3 = refl }
+unfolding halfTurn wrapStep brought _is_ _are_ ofInt toBits add sub mul rem div neg lt le size odd allFinite aboveZero zeros front rootOf rooted rootUnits nearRoot floorRoot totalOf placesOf builtOf rowOf rowsOf worked run rowsFrom columnOf columnsFrom unitAt lambdaOf scaleOf w0mOf w0cOf wiOf weightsPass pointAt inRange guarded searched searchedFrom step newOf told wideKinds narrowKinds
+computed = record { first-left = refl; second-left = refl; ends-at-2 = refl; ends-at-3 = refl; by-the-table = refl }

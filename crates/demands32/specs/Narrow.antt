@@ -1,4 +1,4 @@
--- The records and enums of f64, read as those of f32: back from `wide..` (proofs/OneToOne.antt says that each undoes the other). Definitions only.
+-- The filter of f64 and what stands in it, and the root's answer, with the types of f32: back from `wide..`, and each undoes the other (proofs/OneToOne.antt). No number changes. Definitions only.
 use mathlib.Core.List.{List, map}
 use Rattle.root.specs.declared.Root.{Root}
 use Rattle.root.specs.declared.Root.the-variants.{Value, Refused}
