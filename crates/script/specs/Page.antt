@@ -4,10 +4,11 @@ use mathlib.Core.Path.{_≡_}
 use mathlib.Core.Bool.{cond}
 use mathlib.Core.List.{List, [], _∷_}
 use lib.Dec.{leb}
-use lib.Ieee.{Float, binary64, toBits}
+use lib.Ieee.{Float, Format, toBits}
 use lib.ListN.{length}
 use lib.Seq.{paste}
 use Rattle.io.specs.Digits.{digits, Fewest}
+use Rattle.words.specs.Words.{width}
 
 pub record Page : Type 0 where
   pub bytes : List ℕ
@@ -27,15 +28,15 @@ pub record Decimal (n : ℕ) (p : Page) (used : ℕ) (bytes : List ℕ) : Type 0
   pub count : used ≡ putOf (digits 10 places n) p .used
   pub text : bytes ≡ putOf (digits 10 places n) p .bytes
 
--- the 16 hex digits of a number below 2^64
-unfoldable pub wordText : ℕ → List ℕ
-wordText n = digits 16 16 n
+-- the hex digits of a word
+unfoldable pub wordText : Format → ℕ → List ℕ
+wordText f n = digits 16 (width f) n
 
 -- a blank and the word of a float
-abbrev pub putNumber : Float → Page → Page
-putNumber x p = putOf (wordText (toBits binary64 x)) (putOf (32 ∷ []) p)
+abbrev pub putNumber : Format → Float → Page → Page
+putNumber f x p = putOf (wordText f (toBits f x)) (putOf (32 ∷ []) p)
 
 -- the floats of a list, one after another
-unfoldable pub putNumbers : List Float → Page → Page
-putNumbers [] p = p
-putNumbers (x ∷ l) p = putNumbers l (putNumber x p)
+unfoldable pub putNumbers : Format → List Float → Page → Page
+putNumbers f [] p = p
+putNumbers f (x ∷ l) p = putNumbers f l (putNumber f x p)

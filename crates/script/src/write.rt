@@ -1,6 +1,7 @@
 // An answer's text, put piece by piece into lent bytes: at is how many of them are used, and what has no room is left out.
 ghost use mathlib.Core.Path.{_≡_};
 ghost use Prim.Native.Nat.{_-_};
+ghost use lib.Ieee.{binary64};
 ghost use lib.ListN.{length, take};
 ghost use Rattle.script.specs.Page.{page, putOf, Decimal, putNumber, putNumbers};
 
@@ -63,8 +64,8 @@ pub fn put_decimal(out: &mut [u8], at: usize, n: u64) -> usize
 
 // A blank and the 16 hex digits of a float.
 pub fn put_number(out: &mut [u8], at: usize, x: f64) -> usize
-    ensures { λ r. ⌜ r ≡ putNumber x (page (now (out .entry)) at) .used ⌝ }
-    ensures { λ _. ⌜ now (out .exit) ≡ putNumber x (page (now (out .entry)) at) .bytes ⌝ }
+    ensures { λ r. ⌜ r ≡ putNumber binary64 x (page (now (out .entry)) at) .used ⌝ }
+    ensures { λ _. ⌜ now (out .exit) ≡ putNumber binary64 x (page (now (out .entry)) at) .bytes ⌝ }
 {
     let mut text = [0u8; 16];
     let k = io::hex(words::bits_of(x), 16, &mut text);
@@ -74,8 +75,8 @@ pub fn put_number(out: &mut [u8], at: usize, x: f64) -> usize
 
 // The first k floats of s, as far as it has them.
 pub fn put_numbers(out: &mut [u8], at: usize, s: &[f64], k: usize) -> usize
-    ensures { λ r. ⌜ r ≡ putNumbers (take k (now (s .entry))) (page (now (out .entry)) at) .used ⌝ }
-    ensures { λ _. ⌜ now (out .exit) ≡ putNumbers (take k (now (s .entry))) (page (now (out .entry)) at) .bytes ⌝ }
+    ensures { λ r. ⌜ r ≡ putNumbers binary64 (take k (now (s .entry))) (page (now (out .entry)) at) .used ⌝ }
+    ensures { λ _. ⌜ now (out .exit) ≡ putNumbers binary64 (take k (now (s .entry))) (page (now (out .entry)) at) .bytes ⌝ }
 {
     let mut next = at;
     let mut i = 0usize;
