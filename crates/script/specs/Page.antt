@@ -1,13 +1,16 @@
 -- Bytes that are lent for an answer, and how many of them are used. Definitions only.
 use Prim.Native.Nat.{ℕ, _+_}
 use mathlib.Core.Path.{_≡_}
-use mathlib.Core.Bool.{cond}
+use mathlib.Core.Bool.{Bool, cond}
 use mathlib.Core.List.{List, [], _∷_}
 use lib.Dec.{leb}
 use lib.Ieee.{Float, Format, toBits}
 use lib.ListN.{length}
 use lib.Seq.{paste}
 use Rattle.io.specs.Digits.{digits, Fewest}
+use Rattle.floats.specs.declared.Verdict.{Verdict}
+use Rattle.filter.specs.declared.Stage.{Stage}
+use Rattle.filter.specs.declared.Stage.the-variants.{Shut, Predicting, Correcting}
 use Rattle.words.specs.Words.{width}
 
 pub record Page : Type 0 where
@@ -27,6 +30,26 @@ pub record Decimal (n : ℕ) (p : Page) (used : ℕ) (bytes : List ℕ) : Type 0
   pub fewest : Fewest 10 1 n places
   pub count : used ≡ putOf (digits 10 places n) p .used
   pub text : bytes ≡ putOf (digits 10 places n) p .bytes
+
+-- a refusal, or 0, then a blank and its place; half is the page before the place
+pub record Verdicted (v : Verdict) (p : Page) (used : ℕ) (bytes : List ℕ) : Type 0 where
+  pub half : Page
+  pub number : Decimal (v .number) p (half .used) (half .bytes)
+  pub place : Decimal (v .place) (putOf (32 ∷ []) half) used bytes
+
+-- a blank and 0 or 1
+abbrev pub bitText : Bool → List ℕ
+bitText b = 32 ∷ cond b 49 48 ∷ []
+
+-- what is open: nothing, a prediction or a correction, by the sign - or the letter p or c
+abbrev pub stageSign : Stage → ℕ
+stageSign Shut = 45
+stageSign Predicting = 112
+stageSign Correcting = 99
+
+-- a blank, the word open, a blank and the sign
+abbrev pub stageText : Stage → List ℕ
+stageText s = 32 ∷ 111 ∷ 112 ∷ 101 ∷ 110 ∷ 32 ∷ stageSign s ∷ []
 
 -- the hex digits of a word
 unfoldable pub wordText : Format → ℕ → List ℕ

@@ -3,7 +3,9 @@ ghost use mathlib.Core.Path.{_≡_};
 ghost use Prim.Native.Nat.{_-_};
 ghost use lib.Ieee.{binary64};
 ghost use lib.ListN.{length, take};
-ghost use Rattle.script.specs.Page.{page, putOf, Decimal, putNumber, putNumbers};
+ghost use Rattle.script.specs.Page.{page, putOf, Decimal, Verdicted, bitText, stageText, putNumber, putNumbers};
+use filter::Stage;
+use floats::Verdict;
 
 // The bytes of s after those that are used; how many are used then.
 pub fn put(out: &mut [u8], at: usize, s: &[u8]) -> usize
@@ -60,6 +62,38 @@ pub fn put_decimal(out: &mut [u8], at: usize, n: u64) -> usize
     let mut text = [0u8; 20];
     let k = io::decimal(n, &mut text);
     put(out, at, &text[..k])
+}
+
+// A refusal, or 0, with its place.
+pub fn put_verdict(out: &mut [u8], at: usize, v: Verdict) -> usize
+    ensures { λ r. ⌜ Verdicted v (page (now (out .entry)) at) r (now (out .exit)) ⌝ }
+{
+    let next = put_decimal(out, at, v.number as u64);
+    let next = put(out, next, b" ");
+    put_decimal(out, next, v.place as u64)
+}
+
+// A blank and a bit.
+pub fn put_bit(out: &mut [u8], at: usize, b: bool) -> usize
+    ensures { λ r. ⌜ r ≡ putOf (bitText b) (page (now (out .entry)) at) .used ⌝ }
+    ensures { λ _. ⌜ now (out .exit) ≡ putOf (bitText b) (page (now (out .entry)) at) .bytes ⌝ }
+{
+    if b {
+        return put(out, at, b" 1");
+    }
+    put(out, at, b" 0")
+}
+
+// What is open.
+pub fn put_stage(out: &mut [u8], at: usize, stage: Stage) -> usize
+    ensures { λ r. ⌜ r ≡ putOf (stageText stage) (page (now (out .entry)) at) .used ⌝ }
+    ensures { λ _. ⌜ now (out .exit) ≡ putOf (stageText stage) (page (now (out .entry)) at) .bytes ⌝ }
+{
+    match stage {
+        Stage::Shut => put(out, at, b" open -"),
+        Stage::Predicting => put(out, at, b" open p"),
+        Stage::Correcting => put(out, at, b" open c"),
+    }
 }
 
 // A blank and the 16 hex digits of a float.
