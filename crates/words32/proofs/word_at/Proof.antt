@@ -25,19 +25,19 @@ loop-holds : tie.Need-loop-holds Inv-loop μ-loop
 loop-holds c = (omega arith, read-none)
 
 returns-3 : tie.Need-returns-3 Inv-loop μ-loop
-returns-3 c = read-bad (c .before .before .before .before .loop .inv .1) (c .before .before .before .loop-test .taken) (c .before .digit .ensures) (c .if3 .taken)
+returns-3 c = read-bad (c .before .before .before .before .loop .inv .1) (omega arith) (c .before .digit .ensures) (c .if3 .taken)
 
 mul-v : tie.Need-mul-v Inv-loop μ-loop
-mul-v c = omega (arith, fit (c .before .before .before .before .loop .inv .1) (c .before .before .before .loop-test .taken) (c .if3 .left))
+mul-v c = omega (arith, fit (c .before .before .before .before .loop .inv .1) (omega arith) (c .if3 .left))
 
 add-v : tie.Need-add-v Inv-loop μ-loop
-add-v c = omega (arith, fit (c .before .before .before .before .loop .inv .1) (c .before .before .before .loop-test .taken) (c .if3 .left))
+add-v c = omega (arith, fit (c .before .before .before .before .loop .inv .1) (omega arith) (c .if3 .left))
 
 loop-again : tie.Need-loop-again Inv-loop μ-loop
-loop-again c = (omega arith, read-more (c .before .before .before .before .loop .inv .1) (c .before .before .before .loop-test .taken) (c .before .digit .ensures) (c .if3 .left))
+loop-again c = (omega arith, read-more (c .before .before .before .before .loop .inv .1) (omega arith) (c .before .digit .ensures) (c .if3 .left))
 
 returns-4 : tie.Need-returns-4 Inv-loop μ-loop
-returns-4 c = read-end (c .before .loop .inv .1) (c .loop-test .left) (c .before .loop .inv .0)
+returns-4 c = read-end (c .before .loop .inv .1) (omega arith) (omega arith)
 
 pub word-at-spec : {M : Type 1} → statement M
 word-at-spec =
