@@ -1,16 +1,16 @@
 #!/usr/bin/env python3
-"""Makes the floors at f32 from those at f64.  narrow.py [CRATE..] writes crates/CRATE32;  narrow.py --check says which made files have parted from what it would make, and ends with 1 where some have.
+"""Makes the crates at f32 from those at f64: the floors, and what the programs read, answer and write.  narrow.py [CRATE..] writes crates/CRATE32;  narrow.py --check says which made files have parted from what it would make, and ends with 1 where some have.
 
 Code and the proofs of functions are the same text but for the width: an edit belongs into the f64 crate, and is made here again. Definitions and laws are over the format: they are cited, never copied.
-What has no float in it is SHARED: called, and not made again. What the f32 filter lacks is LEFT. Written by hand are specs/, must-fail/, the laws of lists of kinds in angles32, and the proofs under OWN.
-A contract reads a struct or enum T of f32 as the one of f64, by wideT of specs/Wide.antt; WORDS has the few other words in which the widths differ.
+What has no float in it is SHARED: called, and not made again. What the f32 filter lacks is LEFT. Written by hand are specs/, must-fail/, the laws of lists of kinds in angles32, the root of replay32, and the proofs under OWN.
+A contract reads a struct or enum T of f32 as the one of f64, by wideT of specs/Wide.antt; PROOFS, ARGS, HELD and NUMBERS have the few other words in which the widths differ.
 """
 import os
 import re
 import sys
 
 HERE = os.path.dirname(os.path.abspath(__file__))
-FLOORS = ['floats', 'root', 'angles', 'matrix', 'sigma', 'correction', 'filter', 'words', 'script', 'replay']
+CRATES = ['floats', 'root', 'angles', 'matrix', 'sigma', 'correction', 'filter', 'words', 'script', 'replay']
 
 # what has no float in it, as module::item; a module by itself is lib::module
 SHARED = {
@@ -24,7 +24,7 @@ SHARED = {
         'write::put', 'write::less', 'write::first', 'write::gather', 'write::put_decimal', 'write::put_verdict', 'write::put_bit', 'write::put_stage',
     ],
 }
-# what is not asked for at f32: the guess at a root and its judge (the digits alone are quick enough there), the flat close and what it tests
+# what is not asked for at f32: the guess at a root and its judge (the digits alone are quick enough there), the flat close and what it tests; of replay the program itself, what is held, and the lines that are not the filter's
 LEFT = {
     'root': ['lib::is_nearest_root', 'lib::product', 'lib::high_part', 'lib::guessed_root', 'lib::nearest_root'],
     'correction': ['lib::flat'],
@@ -96,7 +96,7 @@ HELD = [
     (r'kinds_of\(name, ', 'kinds_at('), (r'\| Name::CloseCorrectionFlat => \{\s*close_correction\(name, (.*)\)\n *\}', r'=> close_correction(\1),'),
     (r'fn close_correction\(\n[^)]*\)', 'fn close_correction(held: Filter, s: &[u8], at: usize, out: &mut [u8], used: usize)'), (r'^fn own\(', 'pub fn own('),
 ]
-# the numbers of the format, where code and proofs work from the bits
+# the numbers of the format, where code and proofs work from the bits and their digits
 NUMBERS = {
     'root': {
         'nearest_root': 'root_digits', 'nearest-root': 'root-digits', '52': '23', '53': '24', '54': '25', '63': '31', '64': '32', '11': '8', '1021': '125', '1022': '126', '1074': '149', '3068': '380', '0x7ff': '0xff', '0x800': '0x100', 'u64': 'u32', 'z as u64': 'z',
@@ -236,7 +236,7 @@ def source(crate, name, text):
             text = re.sub(a, b, text, flags=re.M)
     else:
         text = contracts(text, crate)
-    for floor in FLOORS:
+    for floor in CRATES:
         shared = '|'.join(re.escape(w) for w in handed(floor)) or '-'
         if floor != crate:
             text = re.sub(rf'(?<![\w:·.]){floor}::(?!(?:{shared})\b)', f'{floor}32::', text)
@@ -250,7 +250,7 @@ def proof(crate, where, text):
     for a, b in PROOFS.get(crate, {}).get(where, []):
         assert a in text, (crate, where, a)
         text = text.replace(a, b)
-    uses = {w: home(w) for w in re.findall(r'\bwide[A-Z]\w*|\bkinds?-(?:at|set|long)\b', text)}
+    uses = {w: home(w) for w in re.findall(r'\bwide[A-Z]\w*|\bkinds?-(?:at|set|long)(?![\w-])', text)}
     lines = ''.join(f'use {path(*uses[w], crate)}.{{{w}}}\n' for w in sorted(uses))
     return re.sub(r'(?=use Rattle[^\n]*Statement)', lines, text, count=1)
 
@@ -282,7 +282,7 @@ def made(crate):
 def main(words):
     check = '--check' in words
     parted = 0
-    for crate in [w for w in words if not w.startswith('-')] or FLOORS:
+    for crate in [w for w in words if not w.startswith('-')] or CRATES:
         for rel, text in made(crate):
             there = os.path.join(HERE, 'crates', crate + '32', rel)
             old = open(there, encoding='utf-8').read() if os.path.exists(there) else None

@@ -7,7 +7,6 @@ use borrow.Author.Tests.{not-true, not-false}
 use Rattle.script.specs.Numbers.{turnOf, kindIn}
 use Rattle.script.specs.declared.text.Token.{Token}
 use Rattle.script.proofs.Letters.{tested, plain-told, no-letter, turn-told}
-use Rattle.angles32.proofs.Places.{kind-at}
 use Rattle.script32.specs.Wide.{wideNumberRead}
 use Rattle.script32.proofs.numbers.kind_at.Statement.{statement}
 use Rattle.script32.proofs.numbers.kind_at.Tie as tie
