@@ -1,16 +1,16 @@
 #!/usr/bin/env python3
-"""Makes the floors at f32 from those at f64.  narrow.py [CRATE..] writes crates/CRATE32;  narrow.py --check says which made files have parted from what it would make, and ends with 1 where some have.
+"""Makes the crates at f32 from those at f64: the floors, and what the programs read, answer and write.  narrow.py [CRATE..] writes crates/CRATE32;  narrow.py --check says which made files have parted from what it would make, and ends with 1 where some have.
 
 Code and the proofs of functions are the same text but for the width: an edit belongs into the f64 crate, and is made here again. Definitions and laws are over the format: they are cited, never copied.
-What has no float in it is SHARED: called, and not made again. What the f32 filter lacks is LEFT. Written by hand are specs/, must-fail/, the laws of lists of kinds in angles32, and the proofs under OWN.
-A contract reads a struct or enum T of f32 as the one of f64, by wideT of specs/Wide.antt; WORDS has the few other words in which the widths differ.
+What has no float in it is SHARED: called, and not made again. What the f32 filter lacks is LEFT. Written by hand are specs/, must-fail/, the laws of lists of kinds in angles32, the root of replay32, and the proofs under OWN.
+A contract reads a struct or enum T of f32 as the one of f64, by wideT of specs/Wide.antt; PROOFS, ARGS, HELD and NUMBERS have the few other words in which the widths differ.
 """
 import os
 import re
 import sys
 
 HERE = os.path.dirname(os.path.abspath(__file__))
-FLOORS = ['floats', 'root', 'angles', 'matrix', 'sigma', 'correction', 'filter']
+CRATES = ['floats', 'root', 'angles', 'matrix', 'sigma', 'correction', 'filter', 'words', 'script', 'replay']
 
 # what has no float in it, as module::item; a module by itself is lib::module
 SHARED = {
@@ -18,19 +18,25 @@ SHARED = {
     'matrix': ['lib::layout', 'lib::pivots'],
     'sigma': ['lib::place'],
     'filter': ['lib::Stage', 'lib::StaleRead', 'lib::checks', 'new::sooner'],
+    'words': ['lib::Word', 'lib::digit', 'lib::is_between'],
+    'script': [
+        'lib::counts', 'lib::names', 'lib::text', 'numbers::SizeRead', 'numbers::size_at', 'numbers::ListRead',
+        'write::put', 'write::less', 'write::first', 'write::gather', 'write::put_decimal', 'write::put_verdict', 'write::put_bit', 'write::put_stage',
+    ],
 }
-# what is not asked for at f32: the guess at a root and its judge (the digits alone are quick enough there), the flat close and what it tests
+# what is not asked for at f32: the guess at a root and its judge (the digits alone are quick enough there), the flat close and what it tests; of replay the program itself, what is held, and the lines that are not the filter's
 LEFT = {
     'root': ['lib::is_nearest_root', 'lib::product', 'lib::high_part', 'lib::guessed_root', 'lib::nearest_root'],
     'correction': ['lib::flat'],
     'filter': ['closes::close_correction_flat', 'tests::is_plain', 'tests::all_plain'],
+    'replay': ['lib::main', 'lib::take_piece', 'lib::held', 'calls::new_pair', 'calls::kinds_of', 'calls::on_side', 'calls::narrow', 'calls::code', 'calls::answer'],
 }
 # proofs that are written by hand, since what they go by differs: a root's bits fill its word, a list of kinds is read wide
 OWN = {'root': ['positive_root'], 'correction': ['widened'], 'filter': ['tests::halves']}
 # the structs and enums with floats, and where their wide.. stands
 TYPES = {
     'Root': 'root', 'Wrapped': 'angles', 'Residual': 'angles', 'Kind': 'angles', 'Factor': 'matrix', 'Params': 'sigma', 'Drawn': 'sigma', 'Moments': 'sigma', 'Weighting': 'sigma', 'Intake': 'filter',
-    'Weighted': 'filter', 'Sheet': 'filter', 'Track': 'filter', 'Filter': 'filter', 'Answer': 'filter', 'ParamsRead': 'filter', 'NewSheet': 'filter', 'NewTrack': 'filter',
+    'Weighted': 'filter', 'Sheet': 'filter', 'Track': 'filter', 'Filter': 'filter', 'Answer': 'filter', 'ParamsRead': 'filter', 'NewSheet': 'filter', 'NewTrack': 'filter', 'NumberRead': 'script', 'KindRead': 'script',
 }
 # words of made proofs that differ: crate -> function -> [(f64's, f32's)]
 PROOFS = {
@@ -55,6 +61,19 @@ PROOFS = {
             ('(sym (c .before .kind-passes .ensures) ∙ not-false _ (c .if2 .left))', '(rw kind-at (sym (c .before .kind-passes .ensures) ∙ not-false _ (c .if2 .left)))'),
         ],
     },
+    'script': {
+        'numbers::number_at': [
+            ('returns-4 :', 'cast-float-of : tie.Need-cast-float-of\ncast-float-of c = omega (arith, word-below binary32 _ _ (sym (c .before .before .before .word-at .ensures) ∙ c .before .b .given .1))\n\nreturns-4 :'),
+            ('    (λ c κs. search needs)\n    returns-4)', '    cast-float-of\n    (λ c κs. search needs)\n    returns-4)'), ('use Rattle.words.specs.declared', 'use Rattle.words.proofs.Digits.{word-below}\nuse Rattle.words.specs.declared'),
+        ],
+        'numbers::list_at': [
+            ('(c .enum-told2 .given .1)', '(ap wideNumberRead (c .enum-told2 .given .1))'), ('(c .before .value2 .given .1)', '(ap wideNumberRead (c .before .value2 .given .1))'),
+            ('use native.Mathlib', 'use mathlib.Core.Path.{ap}\nuse native.Mathlib'),
+        ],
+        'numbers::kind_at': [('ap turnOf (sym (c .enum-told .given .1))', 'ap turnOf (ap wideNumberRead (sym (c .enum-told .given .1)))'), ('ap turnOf (sym (c .before .value .given .1))', 'ap turnOf (ap wideNumberRead (sym (c .before .value .given .1)))')],
+        'numbers::marked': [('    (λ c κs. tt)\n', '    (λ c. omega arith)\n    (λ c κs. tt)\n')],
+        'write::put_number': [('    (λ c κs. search needs)\n    (λ c κs. search needs)\n', '    (λ c κs. search needs)\n    (λ c. search needs)\n    (λ c κs. search needs)\n')],
+    },
 }
 # in the filter's proofs: an argument that is an f32 struct, handed to a definition or a law
 PLACE = r'(?:a|\w+(?: \w+| \((?:[^()]|\([^()]*\))*\))?(?: \.before)* \.args)'
@@ -69,20 +88,38 @@ ARGS = {
 }
 # comments that speak of what is left out: crate/file -> [(f64's, f32's)]
 SAID = {
+    'floats/lib.rt': [(', and what every answer says', '')],
     'correction/lib.rt': [
         (' by weighted averages through the kinds or, in `flat`, by flat ones without kinds; and the steps that both share.', ' by weighted averages through the kinds.'),
         ("The steps that both share (the Rust's `compute_kalman_gain` and `apply_correction`), from z mean", "The steps (the Rust's `compute_kalman_gain` and `apply_correction`) from z mean"),
     ],
     'filter/closes.rt': [('and the two ways to close a correction:', 'and close correction:')],
+    'filter/tests.rt': [('// ---- 10 and 6\n', '// ---- 6\n')],
     'filter/new.rt': [('Each part is made by itself, and several tracks may be put on one sheet.', 'Each part is made by itself.')],
 }
 # where the words that a made proof takes in stand
 HOMES = {w: ('angles', 'proofs.Places') for w in ('kind-at', 'kinds-set', 'kinds-long')}
-# the numbers of the format, where code and proofs work from the bits
+# in replay: at f32 the filter is all that is held and its answer all that a call has left, and there is no side and no flat close
+HELD = [
+    ('use crate::held;', 'use crate::solo;'), ('use crate::held::Held;', 'use filter::Filter;'), ('use crate::held::Done;', 'use filter::Answer;'), (r'\bHeld\b', 'Filter'), (r'\bDone\b', 'Answer'),
+    (r'\ba( ?)\.held\b', r'a\1.filter'), (r'held::shown\(held\)', 'held'), (r'held::alone\(held, (.*)\);', r'\1;'), (r'held::with_measurement\(name, held, ', 'held.close_correction('),
+    (r'held::with_', 'solo::with_'), (r'held::(\w+)\(held(?:, )?', r'held.\1('), (r', closef [^\n]*', ''), (' or on a side of the pair: the same lines', ''),
+    (r'kinds_of\(name, ', 'kinds_at('), (r'\| Name::CloseCorrectionFlat => \{\s*close_correction\(name, (.*)\)\n *\}', r'=> close_correction(\1),'),
+    (r'fn close_correction\(\n[^)]*\)', 'fn close_correction(held: Filter, s: &[u8], at: usize, out: &mut [u8], used: usize)'), (r'^fn own\(', 'pub fn own('),
+]
+# the numbers of the format, where code and proofs work from the bits and their digits
 NUMBERS = {
     'root': {
         'nearest_root': 'root_digits', 'nearest-root': 'root-digits', '52': '23', '53': '24', '54': '25', '63': '31', '64': '32', '11': '8', '1021': '125', '1022': '126', '1074': '149', '3068': '380', '0x7ff': '0xff', '0x800': '0x100', 'u64': 'u32', 'z as u64': 'z',
         '0xf_ffff_ffff_ffff': '0x7f_ffff', '0x10_0000_0000_0000': '0x80_0000', '0x20_0000_0000_0000': '0x100_0000', '0x7fff_ffff_ffff_ffff': '0x7fff_ffff', '0x7ff0_0000_0000_0000': '0x7f80_0000',
+    },
+    'words': {
+        '16 hex digits': '8 hex digits', 'DIGITS: usize = 16': 'DIGITS: usize = 8', 'u64': 'u32', '7ff8000000000000': '7fc00000', '0x7ff0_0000_0000_0000': '0x7f80_0000', '0x7ff8_0000_0000_0000': '0x7fc0_0000',
+        '0x8000_0000_0000_0000': '0x8000_0000',
+    },
+    'script': {
+        '16 hex digits': '8 hex digits', 'end - start != 16': 'end - start != 8', 'float_of(b': 'float_of(b as u32', '2^52': '2^23', '0x4330_0000_0000_0000 + i as u64': '0x4b00_0000 + i as u32', 'bits_of(x), 16': 'bits_of(x) as u64, 8',
+        '(bytes and tokens, sizes, numbers, lists and kinds, the call that a line names)': '(numbers, lists and kinds)',
     },
 }
 FN = re.compile(r'^(?P<head> *(?:pub )?fn \w+\((?P<params>[^{]*?)\)(?: -> (?P<result>[^\n{]+))?\n)(?P<contract>(?: +(?:requires|ensures) \{.*\}\n)+)', re.M)
@@ -94,6 +131,23 @@ def without(text, name):
         return text.replace(f'pub mod {name};\n', '')
     found = re.search(rf'(?:^ *//[^\n]*\n)*^(?P<in> *)(?:pub )?(?:fn|enum|struct) {name}\b.*?^(?P=in)}}\n\n?', text, re.M | re.S)
     return text.replace(found.group(0), '')
+
+
+def handed(crate):
+    """The names by which others call what is shared of a crate."""
+    root = os.path.join(HERE, 'crates', crate, 'src', 'lib.rt')
+    text = open(root, encoding='utf-8').read() if os.path.exists(root) else ''
+    for s in SHARED.get(crate, []):
+        module, item = s.split('::')
+        yield from [item, *re.findall(rf'^pub use {item}::(\w+);', text, re.M)] if module == 'lib' else [s, item]
+
+
+def exported(crate, text):
+    """The root of a crate without the names that it hands on of what is shared."""
+    for s in SHARED.get(crate, []):
+        module, item = s.split('::')
+        text = re.sub(rf'^pub use {item}::\w+;\n' if module == 'lib' else rf'^pub use {module}::{item};\n', '', text, flags=re.M)
+    return text
 
 
 def imported(text, line):
@@ -166,7 +220,8 @@ def common(text, crate):
     text = re.sub(rf'Rattle·{crate}·(proofs|specs)\.\1\.', rf'Rattle.{crate}.\1.', text)
     text = re.sub(r'(?<!\w)f64\b|(?<=0)f64\b', 'f32', text).replace('binary64', 'binary32').replace('double', 'f32')
     for word, other in sorted(NUMBERS.get(crate, {}).items(), key=lambda w: -len(w[0])):
-        text = re.sub(rf'(?<![\w{"" if word[0].isalpha() else "."}]){word}\b', other, text)
+        before, after = '' if word[0].isalpha() else '.', r'\b' if word[-1].isalnum() else ''
+        text = re.sub(rf'(?<![\w{before}]){re.escape(word)}{after}', other, text)
     return text
 
 
@@ -174,6 +229,8 @@ def source(crate, name, text):
     for a, b in SAID.get(f'{crate}/{name}', []):
         assert a in text, (crate, name, a)
         text = text.replace(a, b)
+    if name == 'lib.rt':
+        text = exported(crate, text)
     for s in LEFT.get(crate, []):
         module, item = s.split('::')
         if name == module + '.rt':
@@ -188,9 +245,13 @@ def source(crate, name, text):
             else:
                 text = imported(text, f'use {there}::{item};\n')
         text = re.sub(rf'(?<![\w:])crate::{item}\b' if module == 'lib' else rf'(?<![\w:])(?:crate::)?{module}::{item}\b', f'{there}::{item}', text)
-    text = contracts(text, crate)
-    for floor in FLOORS:
-        shared = '|'.join(re.escape(s.replace('lib::', '')) for s in SHARED.get(floor, [])) or '-'
+    if crate == 'replay':
+        for a, b in HELD:
+            text = re.sub(a, b, text, flags=re.M)
+    else:
+        text = contracts(text, crate)
+    for floor in CRATES:
+        shared = '|'.join(re.escape(w) for w in handed(floor)) or '-'
         if floor != crate:
             text = re.sub(rf'(?<![\w:·.]){floor}::(?!(?:{shared})\b)', f'{floor}32::', text)
     return trimmed(common(text, crate))
@@ -203,7 +264,7 @@ def proof(crate, where, text):
     for a, b in PROOFS.get(crate, {}).get(where, []):
         assert a in text, (crate, where, a)
         text = text.replace(a, b)
-    uses = {w: home(w) for w in re.findall(r'\bwide[A-Z]\w*|\bkinds?-(?:at|set|long)\b', text)}
+    uses = {w: home(w) for w in re.findall(r'\bwide[A-Z]\w*|\bkinds?-(?:at|set|long)(?![\w-])', text)}
     lines = ''.join(f'use {path(*uses[w], crate)}.{{{w}}}\n' for w in sorted(uses))
     return re.sub(r'(?=use Rattle[^\n]*Statement)', lines, text, count=1)
 
@@ -211,7 +272,7 @@ def proof(crate, where, text):
 def marked(text, crate):
     """The first line says that the file is made."""
     first, rest = text.split('\n', 1)
-    return f'{first} At f32: made from crates/{crate} by narrow.py.\n{rest}'
+    return f'{first} At f32, made from crates/{crate} by ./narrow.py: edit there.\n{rest}'
 
 
 def made(crate):
@@ -235,7 +296,7 @@ def made(crate):
 def main(words):
     check = '--check' in words
     parted = 0
-    for crate in [w for w in words if not w.startswith('-')] or FLOORS:
+    for crate in [w for w in words if not w.startswith('-')] or CRATES:
         for rel, text in made(crate):
             there = os.path.join(HERE, 'crates', crate + '32', rel)
             old = open(there, encoding='utf-8').read() if os.path.exists(there) else None

@@ -1,4 +1,4 @@
-// The exact wrap of a difference of headings into (-h, h], and the residual kinds that use it. At f32: made from crates/angles by narrow.py.
+// The exact wrap of a difference of headings into (-h, h], and the residual kinds that use it. At f32, made from crates/angles by ./narrow.py: edit there.
 ghost use mathlib.Core.Path.{_≡_};
 ghost use lib.Ieee.{binary32};
 ghost use Rattle.floats.specs.Refusal.{refusal};

@@ -1,4 +1,4 @@
-// The correction: x and P from observed points and a measurement, by weighted averages through the kinds. At f32: made from crates/correction by narrow.py.
+// The correction: x and P from observed points and a measurement, by weighted averages through the kinds. At f32, made from crates/correction by ./narrow.py: edit there.
 ghost use mathlib.Core.Path.{_≡_};
 ghost use Prim.Native.Nat.{_≤_};
 ghost use lib.Ieee.{binary32};

@@ -1,4 +1,4 @@
-// Close prediction and close correction: x and P set, the points and the opened weights installed, scratch at +0. At f32: made from crates/filter by narrow.py.
+// Close prediction and close correction: x and P set, the points and the opened weights installed, scratch at +0. At f32, made from crates/filter by ./narrow.py: edit there.
 ghost use mathlib.Core.Path.{_≡_};
 ghost use lib.Ieee.{binary32};
 ghost use Rattle.filter.specs.Calls.{closing, close-prediction, close-correction};

@@ -1,4 +1,4 @@
-// What an open call has drawn, beside the track as it was. At f32: made from crates/filter by narrow.py.
+// What an open call has drawn, beside the track as it was. At f32, made from crates/filter by ./narrow.py: edit there.
 ghost use mathlib.Core.Path.{_≡_};
 ghost use Rattle.filter.specs.Filters.{withDrawn, shut};
 ghost use Rattle.filter32.specs.Wide.{wideTrack, wideWeighted};

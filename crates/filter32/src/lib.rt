@@ -1,4 +1,4 @@
-// The filter and its calls. At f32: made from crates/filter by narrow.py.
+// The filter and its calls. At f32, made from crates/filter by ./narrow.py: edit there.
 use angles32::Kind;
 use filter::Stage;
 use floats::Verdict;

@@ -1,4 +1,4 @@
-// The measurement that a close of a correction is lent: tested, and taken into arrays. At f32: made from crates/filter by narrow.py.
+// The measurement that a close of a correction is lent: tested, and taken into arrays. At f32, made from crates/filter by ./narrow.py: edit there.
 ghost use mathlib.Core.Path.{_≡_};
 ghost use lib.ListN.{take};
 ghost use Rattle.filter.specs.Measurement.{takenIn, unmeasured, measured};

@@ -1,4 +1,4 @@
-// New: a filter from n, x, P, Q and the parameters, a track on a sheet; refused, the empty filter. Each part is made by itself. At f32: made from crates/filter by narrow.py.
+// New: a filter from n, x, P, Q and the parameters, a track on a sheet; refused, the empty filter. Each part is made by itself. At f32, made from crates/filter by ./narrow.py: edit there.
 ghost use mathlib.Core.Path.{_≡_};
 ghost use lib.Ieee.{binary32};
 ghost use Rattle.filter.specs.New.{freshSheet, freshTrack, from, newSheet, newTrack, newAnswer, emptySheet, emptyTrack};

@@ -1,4 +1,4 @@
-// Open prediction and open correction, and abandon: what an open call has drawn is kept beside the filter as it was. At f32: made from crates/filter by narrow.py.
+// Open prediction and open correction, and abandon: what an open call has drawn is kept beside the filter as it was. At f32, made from crates/filter by ./narrow.py: edit there.
 ghost use mathlib.Core.Path.{_≡_};
 ghost use mathlib.Core.Bool.{false};
 ghost use Prim.Native.Nat.{_≤_};

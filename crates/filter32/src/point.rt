@@ -1,4 +1,4 @@
-// Point k of a lent list: that part of the list itself, and a sister call that gives number and place. At f32: made from crates/filter by narrow.py.
+// Point k of a lent list: that part of the list itself, and a sister call that gives number and place. At f32, made from crates/filter by ./narrow.py: edit there.
 ghost use mathlib.Core.Path.{_≡_};
 ghost use lib.Ieee.{binary32};
 ghost use denote.Ref.{ptr};

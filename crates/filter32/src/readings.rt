@@ -1,4 +1,4 @@
-// Readings, at any time, into lent buffers or as values; the current points only when not stale. At f32: made from crates/filter by narrow.py.
+// Readings, at any time, into lent buffers or as values; the current points only when not stale. At f32, made from crates/filter by ./narrow.py: edit there.
 ghost use mathlib.Core.Path.{_≡_};
 ghost use mathlib.Core.Bool.{true};
 ghost use mathlib.Core.List.{[]};

@@ -1,4 +1,4 @@
-// Set x, P, Q, the parameters and a kind. None of them touches points or weights; each but that of Q marks the filter stale. At f32: made from crates/filter by narrow.py.
+// Set x, P, Q, the parameters and a kind. None of them touches points or weights; each but that of Q marks the filter stale. At f32, made from crates/filter by ./narrow.py: edit there.
 ghost use mathlib.Core.Path.{_≡_};
 ghost use lib.Ieee.{binary32};
 ghost use Rattle.filter.specs.Calls.{writing, setting, set-x, set-p, set-q, set-params, set-kind};

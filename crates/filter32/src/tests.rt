@@ -1,4 +1,4 @@
-// What the calls test of the numbers that come in. None of the tests has a `requires`; one that goes by a size is right where the size is in range. At f32: made from crates/filter by narrow.py.
+// What the calls test of the numbers that come in. None of the tests has a `requires`; one that goes by a size is right where the size is in range. At f32, made from crates/filter by ./narrow.py: edit there.
 ghost use mathlib.Core.Path.{_≡_};
 ghost use mathlib.Core.Bool.{false, _&&_};
 ghost use mathlib.Core.List.{[], _++_};
@@ -36,7 +36,7 @@ pub fn halves(kinds: [Kind; 4]) -> [f32; 4]
     [a, b, c, d]
 }
 
-// ---- 10 and 6
+// ---- 6
 
 pub fn params_pass(n: usize, params: Params) -> bool
     ensures { λ r. ⌜ r ≡ (leb n 8 && weightsPass binary32 n (wideParams params)) ⌝ }

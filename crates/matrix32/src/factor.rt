@@ -1,4 +1,4 @@
-// The factor L of A. At f32: made from crates/matrix by narrow.py.
+// The factor L of A. At f32, made from crates/matrix by ./narrow.py: edit there.
 ghost use mathlib.Core.Path.{_≡_};
 ghost use Prim.Native.Nat.{_≤_};
 ghost use lib.Ieee.{binary32};

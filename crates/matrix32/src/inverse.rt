@@ -1,4 +1,4 @@
-// The inverse of A from its factor L, two passes for each column. At f32: made from crates/matrix by narrow.py.
+// The inverse of A from its factor L, two passes for each column. At f32, made from crates/matrix by ./narrow.py: edit there.
 ghost use mathlib.Core.Path.{_≡_};
 ghost use Prim.Native.Nat.{_<_, _≤_};
 ghost use lib.Ieee.{binary32};

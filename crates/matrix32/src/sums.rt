@@ -1,4 +1,4 @@
-// Sums of products of rows, and sums and differences of matrices. Each operation is rounded once. At f32: made from crates/matrix by narrow.py.
+// Sums of products of rows, and sums and differences of matrices. Each operation is rounded once. At f32, made from crates/matrix by ./narrow.py: edit there.
 ghost use mathlib.Core.Path.{_≡_};
 ghost use Prim.Native.Nat.{_+_, _≤_};
 ghost use lib.Ieee.{binary32};

@@ -1,16 +1,11 @@
 // The answers, line by line, put after the bytes of out that are used. Each hands back how many are used then, and what is held where the call is on it.
 ghost use mathlib.Core.Path.{_≡_};
-ghost use mathlib.Core.Bool.{_&&_, cond};
-ghost use Prim.Native.Nat.{_*_};
-ghost use lib.Dec.{leb};
 use crate::held;
 use crate::held::Done;
 use crate::held::Held;
-use crate::held::Whose;
 use angles::Kind;
 use angles::Residual;
 use filter::Filter;
-use filter::Stage;
 use floats::Verdict;
 use sigma::Params;
 
@@ -30,19 +25,12 @@ pub fn bad(held: Held, out: &mut [u8], used: usize) -> Turn
     }
 }
 
-// A refusal, or 0, with its place.
-fn put_verdict(out: &mut [u8], used: usize, v: Verdict) -> usize {
-    let at = script::put_decimal(out, used, v.number as u64);
-    let at = script::put(out, at, b" ");
-    script::put_decimal(out, at, v.place as u64)
-}
-
 // Number and place, alone.
 pub fn number(a: Done, out: &mut [u8], used: usize) -> Turn
     ensures { λ r. ⌜ r .held ≡ a .held ⌝ }
 {
     let refusal = a.refusal;
-    let at = put_verdict(out, used, refusal);
+    let at = script::put_verdict(out, used, refusal);
     let held = a.held;
     Turn {
         held,
@@ -55,7 +43,7 @@ pub fn buffer(a: Done, lent: &[f64], out: &mut [u8], used: usize) -> Turn
     ensures { λ r. ⌜ r .held ≡ a .held ⌝ }
 {
     let refusal = a.refusal;
-    let at = put_verdict(out, used, refusal);
+    let at = script::put_verdict(out, used, refusal);
     let at = script::put(out, at, b" ");
     let at = script::put_decimal(out, at, lent.len() as u64);
     let at = script::put_numbers(out, at, lent, lent.len());
@@ -66,26 +54,6 @@ pub fn buffer(a: Done, lent: &[f64], out: &mut [u8], used: usize) -> Turn
     }
 }
 
-// The product of two small numbers.
-pub fn times(a: usize, b: usize) -> usize
-    ensures { λ r. ⌜ r ≡ cond (leb a 32 && leb b 32) (a * b) 0 ⌝ }
-{
-    if a <= 32 {
-        if b <= 32 {
-            return a * b;
-        }
-    }
-    0
-}
-
-// The numbers of 2n+1 points.
-fn point_numbers(n: usize) -> usize {
-    if n <= 8 {
-        return times(n, n + n + 1);
-    }
-    0
-}
-
 // A label, and the numbers of an array of a filter: its states, a matrix, the first two weights, the points.
 fn put_states(out: &mut [u8], used: usize, label: &[u8], x: &[f64; 8], n: usize) -> usize {
     let at = script::put(out, used, label);
@@ -94,7 +62,7 @@ fn put_states(out: &mut [u8], used: usize, label: &[u8], x: &[f64; 8], n: usize)
 
 fn put_matrix(out: &mut [u8], used: usize, label: &[u8], p: &[f64; 64], n: usize) -> usize {
     let at = script::put(out, used, label);
-    script::put_numbers(out, at, p, times(n, n))
+    script::put_numbers(out, at, p, script::times(n, n))
 }
 
 fn put_weights(out: &mut [u8], used: usize, label: &[u8], weights: &[f64; 17]) -> usize {
@@ -104,11 +72,11 @@ fn put_weights(out: &mut [u8], used: usize, label: &[u8], weights: &[f64; 17]) -
 
 fn put_points(out: &mut [u8], used: usize, label: &[u8], points: &[f64; 136], n: usize) -> usize {
     let at = script::put(out, used, label);
-    script::put_numbers(out, at, points, point_numbers(n))
+    script::put_numbers(out, at, points, script::point_numbers(n))
 }
 
 // A close: number and place, and where accepted x and P.
-pub fn close(a: Done, whose: Whose, out: &mut [u8], used: usize) -> Turn
+pub fn close(a: Done, out: &mut [u8], used: usize) -> Turn
     ensures { λ r. ⌜ r .held ≡ a .held ⌝ }
 {
     let refusal = a.refusal;
@@ -116,11 +84,11 @@ pub fn close(a: Done, whose: Whose, out: &mut [u8], used: usize) -> Turn
         return number(a, out, used);
     }
     let held = a.held;
-    let filter = held::shown(held, whose);
+    let filter = held::shown(held);
     let n = filter.sheet.n;
     let x = filter.track.x;
     let p = filter.track.p;
-    let at = put_verdict(out, used, refusal);
+    let at = script::put_verdict(out, used, refusal);
     let at = put_states(out, at, b" x", &x, n);
     let at = put_matrix(out, at, b" P", &p, n);
     Turn {
@@ -136,12 +104,12 @@ fn put_params(out: &mut [u8], used: usize, params: Params) -> usize {
 }
 
 // Number and place, and the parameters.
-pub fn params(held: Held, whose: Whose, out: &mut [u8], used: usize) -> Turn
+pub fn params(held: Held, out: &mut [u8], used: usize) -> Turn
     ensures { λ r. ⌜ r .held ≡ held ⌝ }
 {
-    let read = held::read_params(held, whose);
+    let read = held::read_params(held);
     let refusal = read.refusal;
-    let at = put_verdict(out, used, refusal);
+    let at = script::put_verdict(out, used, refusal);
     let given = read.params;
     let at = put_params(out, at, given);
     Turn {
@@ -150,21 +118,14 @@ pub fn params(held: Held, whose: Whose, out: &mut [u8], used: usize) -> Turn
     }
 }
 
-fn put_bit(out: &mut [u8], used: usize, b: bool) -> usize {
-    if b {
-        return script::put(out, used, b" 1");
-    }
-    script::put(out, used, b" 0")
-}
-
 // Number and place, and the stale mark.
-pub fn stale(held: Held, whose: Whose, out: &mut [u8], used: usize) -> Turn
+pub fn stale(held: Held, out: &mut [u8], used: usize) -> Turn
     ensures { λ r. ⌜ r .held ≡ held ⌝ }
 {
-    let read = held::read_stale(held, whose);
+    let read = held::read_stale(held);
     let refusal = read.refusal;
-    let at = put_verdict(out, used, refusal);
-    let at = put_bit(out, at, read.stale);
+    let at = script::put_verdict(out, used, refusal);
+    let at = script::put_bit(out, at, read.stale);
     Turn {
         held,
         used: script::put(out, at, b"\n"),
@@ -173,7 +134,7 @@ pub fn stale(held: Held, whose: Whose, out: &mut [u8], used: usize) -> Turn
 
 // Number and place, where the part starts in its list, its length, and its numbers.
 pub fn point(refusal: Verdict, start: usize, part: &[f64], out: &mut [u8], used: usize) -> usize {
-    let at = put_verdict(out, used, refusal);
+    let at = script::put_verdict(out, used, refusal);
     let at = script::put(out, at, b" ");
     let at = script::put_decimal(out, at, start as u64);
     let at = script::put(out, at, b" ");
@@ -184,7 +145,7 @@ pub fn point(refusal: Verdict, start: usize, part: &[f64], out: &mut [u8], used:
 
 // Number and place, and a value.
 pub fn value(refusal: Verdict, x: f64, out: &mut [u8], used: usize) -> usize {
-    let at = put_verdict(out, used, refusal);
+    let at = script::put_verdict(out, used, refusal);
     let at = script::put_number(out, at, x);
     script::put(out, at, b"\n")
 }
@@ -211,14 +172,6 @@ fn put_kinds(out: &mut [u8], used: usize, kinds: [Kind; 8], n: usize) -> usize {
         i += 1;
     }
     at
-}
-
-fn put_stage(out: &mut [u8], used: usize, stage: Stage) -> usize {
-    match stage {
-        Stage::Shut => script::put(out, used, b" open -"),
-        Stage::Predicting => script::put(out, used, b" open p"),
-        Stage::Correcting => script::put(out, used, b" open c"),
-    }
 }
 
 // Of a filter: its size, x, P and Q.
@@ -253,7 +206,7 @@ fn put_current(out: &mut [u8], used: usize, filter: Filter) -> usize {
     let at = put_weights(out, used, b" w", &weights);
     let at = put_points(out, at, b" pts", &points, n);
     let at = script::put(out, at, b" stale");
-    put_bit(out, at, filter.track.stale)
+    script::put_bit(out, at, filter.track.stale)
 }
 
 // Of a filter: what is open, and what that has drawn.
@@ -263,16 +216,16 @@ fn put_drawn(out: &mut [u8], used: usize, filter: Filter) -> usize {
     let stage = track.stage;
     let weights = track.drawn_weights;
     let points = track.drawn_points;
-    let at = put_stage(out, used, stage);
+    let at = script::put_stage(out, used, stage);
     let at = put_weights(out, at, b" dw", &weights);
     put_points(out, at, b" dpts", &points, n)
 }
 
 // All of a filter, the used places only.
-pub fn dump(held: Held, whose: Whose, out: &mut [u8], used: usize) -> Turn
+pub fn dump(held: Held, out: &mut [u8], used: usize) -> Turn
     ensures { λ r. ⌜ r .held ≡ held ⌝ }
 {
-    let filter = held::shown(held, whose);
+    let filter = held::shown(held);
     let at = put_values(out, used, filter);
     let at = put_settings(out, at, filter);
     let at = put_current(out, at, filter);

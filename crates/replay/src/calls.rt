@@ -108,15 +108,7 @@ fn new_pair(held: Held, s: &[u8], at: usize, out: &mut [u8], used: usize) -> Tur
 }
 
 // setx LIST, setp LIST, setq LIST
-fn set(
-    name: Name,
-    held: Held,
-    whose: Whose,
-    s: &[u8],
-    at: usize,
-    out: &mut [u8],
-    used: usize,
-) -> Turn {
+fn set(name: Name, held: Held, s: &[u8], at: usize, out: &mut [u8], used: usize) -> Turn {
     let mut list = [0.0f64; 512];
     let ListRead::Numbers { len, next } = script::list_at(s, at, &mut list) else {
         return answers::bad(held, out, used);
@@ -124,19 +116,12 @@ fn set(
     if !script::no_token(s, next) {
         return answers::bad(held, out, used);
     }
-    let done = held::with_list(name, held, whose, script::front(&list, len));
+    let done = held::with_list(name, held, script::front(&list, len));
     answers::number(done, out, used)
 }
 
 // closep LIST
-fn close_prediction(
-    held: Held,
-    whose: Whose,
-    s: &[u8],
-    at: usize,
-    out: &mut [u8],
-    used: usize,
-) -> Turn {
+fn close_prediction(held: Held, s: &[u8], at: usize, out: &mut [u8], used: usize) -> Turn {
     let mut list = [0.0f64; 512];
     let ListRead::Numbers { len, next } = script::list_at(s, at, &mut list) else {
         return answers::bad(held, out, used);
@@ -145,23 +130,23 @@ fn close_prediction(
         return answers::bad(held, out, used);
     }
     let list = script::front(&list, len);
-    let done = held::with_list(Name::ClosePrediction, held, whose, list);
-    answers::close(done, whose, out, used)
+    let done = held::with_list(Name::ClosePrediction, held, list);
+    answers::close(done, out, used)
 }
 
 // setpar F F F
-fn set_params(held: Held, whose: Whose, s: &[u8], at: usize, out: &mut [u8], used: usize) -> Turn {
+fn set_params(held: Held, s: &[u8], at: usize, out: &mut [u8], used: usize) -> Turn {
     let ParamsAt::Three { params, next } = params_at(s, at) else {
         return answers::bad(held, out, used);
     };
     if !script::no_token(s, next) {
         return answers::bad(held, out, used);
     }
-    answers::number(held::set_params(held, whose, params), out, used)
+    answers::number(held::set_params(held, params), out, used)
 }
 
 // setkind i KIND
-fn set_kind(held: Held, whose: Whose, s: &[u8], at: usize, out: &mut [u8], used: usize) -> Turn {
+fn set_kind(held: Held, s: &[u8], at: usize, out: &mut [u8], used: usize) -> Turn {
     let SizeRead::Size { value: i, next } = script::size_at(s, at) else {
         return answers::bad(held, out, used);
     };
@@ -171,20 +156,12 @@ fn set_kind(held: Held, whose: Whose, s: &[u8], at: usize, out: &mut [u8], used:
     if !script::no_token(s, next) {
         return answers::bad(held, out, used);
     }
-    let done = held::set_kind(held, whose, i as usize, kind);
+    let done = held::set_kind(held, i as usize, kind);
     answers::number(done, out, used)
 }
 
 // openp BUF, openc BUF, readx BUF, readp BUF, readq BUF, readpts BUF
-fn lend(
-    name: Name,
-    held: Held,
-    whose: Whose,
-    s: &[u8],
-    at: usize,
-    out: &mut [u8],
-    used: usize,
-) -> Turn {
+fn lend(name: Name, held: Held, s: &[u8], at: usize, out: &mut [u8], used: usize) -> Turn {
     let SizeRead::Size { value, next } = script::size_at(s, at) else {
         return answers::bad(held, out, used);
     };
@@ -196,7 +173,7 @@ fn lend(
     }
     let len = value as usize;
     let mut buffer = script::marked();
-    let a = held::with_buffer(name, held, whose, &mut buffer[..len]);
+    let a = held::with_buffer(name, held, &mut buffer[..len]);
     answers::buffer(a, script::front(&buffer, len), out, used)
 }
 
@@ -250,7 +227,6 @@ fn kinds_of(name: Name, s: &[u8], at: usize) -> FourKinds {
 fn close_correction(
     name: Name,
     held: Held,
-    whose: Whose,
     s: &[u8],
     at: usize,
     out: &mut [u8],
@@ -282,8 +258,8 @@ fn close_correction(
     let r = script::front(&r, of_r);
     let observed = script::front(&observed, len);
     let kinds = four.kinds;
-    let done = held::with_measurement(name, held, whose, m as usize, z, r, kinds, observed);
-    answers::close(done, whose, out, used)
+    let done = held::with_measurement(name, held, m as usize, z, r, kinds, observed);
+    answers::close(done, out, used)
 }
 
 // The numbers start at k * n, where that is accepted.
@@ -293,7 +269,7 @@ fn point_of(n: usize, k: usize, list: &[f64], out: &mut [u8], used: usize) -> us
     if refusal.number != 0 {
         return answers::point(refusal, 0, part, out, used);
     }
-    answers::point(refusal, answers::times(k, n), part, out, used)
+    answers::point(refusal, script::times(k, n), part, out, used)
 }
 
 // point n k LIST
@@ -311,7 +287,8 @@ fn point(held: Held, s: &[u8], at: usize, out: &mut [u8], used: usize) -> Turn {
     if !script::no_token(s, next) {
         return answers::bad(held, out, used);
     }
-    let used = point_of(n as usize, k as usize, script::front(&list, len), out, used);
+    let list = script::front(&list, len);
+    let used = point_of(n as usize, k as usize, list, out, used);
     Turn { held, used }
 }
 
@@ -351,54 +328,49 @@ fn root(held: Held, s: &[u8], at: usize, out: &mut [u8], used: usize) -> Turn {
 }
 
 // abandon, readpar, readstale, dump: nothing follows the name.
-fn alone(
-    name: Name,
-    held: Held,
-    whose: Whose,
-    s: &[u8],
-    at: usize,
-    out: &mut [u8],
-    used: usize,
-) -> Turn {
+fn alone(name: Name, held: Held, s: &[u8], at: usize, out: &mut [u8], used: usize) -> Turn {
     if !script::no_token(s, at) {
         return answers::bad(held, out, used);
     }
     match name {
-        Name::Abandon => answers::number(held::abandon(held, whose), out, used),
-        Name::ReadParams => answers::params(held, whose, out, used),
-        Name::ReadStale => answers::stale(held, whose, out, used),
-        _ => answers::dump(held, whose, out, used),
+        Name::Abandon => answers::number(held::abandon(held), out, used),
+        Name::ReadParams => answers::params(held, out, used),
+        Name::ReadStale => answers::stale(held, out, used),
+        _ => answers::dump(held, out, used),
     }
 }
 
 // A call on the filter or on a side of the pair: the same lines.
-fn call(
-    name: Name,
-    held: Held,
-    whose: Whose,
-    s: &[u8],
-    at: usize,
-    out: &mut [u8],
-    used: usize,
-) -> Turn {
+fn call(name: Name, held: Held, s: &[u8], at: usize, out: &mut [u8], used: usize) -> Turn {
     match name {
-        Name::SetX | Name::SetP | Name::SetQ => set(name, held, whose, s, at, out, used),
-        Name::SetParams => set_params(held, whose, s, at, out, used),
-        Name::SetKind => set_kind(held, whose, s, at, out, used),
+        Name::SetX | Name::SetP | Name::SetQ => set(name, held, s, at, out, used),
+        Name::SetParams => set_params(held, s, at, out, used),
+        Name::SetKind => set_kind(held, s, at, out, used),
         Name::OpenPrediction
         | Name::OpenCorrection
         | Name::ReadX
         | Name::ReadP
         | Name::ReadQ
-        | Name::ReadPoints => lend(name, held, whose, s, at, out, used),
-        Name::ClosePrediction => close_prediction(held, whose, s, at, out, used),
+        | Name::ReadPoints => lend(name, held, s, at, out, used),
+        Name::ClosePrediction => close_prediction(held, s, at, out, used),
         Name::CloseCorrection | Name::CloseCorrectionFlat => {
-            close_correction(name, held, whose, s, at, out, used)
+            close_correction(name, held, s, at, out, used)
         }
         Name::Abandon | Name::ReadParams | Name::ReadStale | Name::Dump => {
-            alone(name, held, whose, s, at, out, used)
+            alone(name, held, s, at, out, used)
         }
         _ => answers::bad(held, out, used),
+    }
+}
+
+// A call on the filter, or new, point, wrap or root.
+fn own(name: Name, held: Held, s: &[u8], at: usize, out: &mut [u8], used: usize) -> Turn {
+    match name {
+        Name::New => new(held, s, at, out, used),
+        Name::Point => point(held, s, at, out, used),
+        Name::Wrap => wrap(held, s, at, out, used),
+        Name::Root => root(held, s, at, out, used),
+        _ => call(name, held, s, at, out, used),
     }
 }
 
@@ -407,7 +379,23 @@ fn on_side(held: Held, side: Side, s: &[u8], at: usize, out: &mut [u8], used: us
     let named = script::call_at(s, at);
     let next = named.next;
     let name = named.name;
-    call(name, held, Whose::On(side), s, next, out, used)
+    call(
+        name,
+        held::turned(held, Whose::On(side)),
+        s,
+        next,
+        out,
+        used,
+    )
+}
+
+// @w CALL
+fn narrow(held: Held, s: &[u8], at: usize, out: &mut [u8], used: usize) -> Turn {
+    let turn = replay32::answer(held.narrow, s, at, out, used);
+    Turn {
+        held: held::narrowed(held, turn.held),
+        used: turn.used,
+    }
 }
 
 // The answer to the call on a line, up to its comment; none where there is no token.
@@ -419,19 +407,17 @@ fn code(held: Held, s: &[u8], out: &mut [u8], used: usize) -> Turn {
     let at = named.next;
     let name = named.name;
     match name {
-        Name::New => new(held, s, at, out, used),
         Name::NewPair => new_pair(held, s, at, out, used),
         Name::First => on_side(held, Side::First, s, at, out, used),
         Name::Second => on_side(held, Side::Second, s, at, out, used),
-        Name::Point => point(held, s, at, out, used),
-        Name::Wrap => wrap(held, s, at, out, used),
-        Name::Root => root(held, s, at, out, used),
-        _ => call(name, held, Whose::Alone, s, at, out, used),
+        Name::Narrow => narrow(held, s, at, out, used),
+        _ => own(name, held, s, at, out, used),
     }
 }
 
-// The answer to the line that the first len bytes of line are; one that is too long is no call.
+// The answer to the line that the first len bytes of line are; one that is too long is no call. Each line is the filter's unless it names another.
 pub fn answer(held: Held, line: &[u8], len: usize, out: &mut [u8], used: usize) -> Turn {
+    let held = held::turned(held, Whose::Alone);
     if 16384 < len {
         return answers::bad(held, out, used);
     }

@@ -1,5 +1,6 @@
-// What the calls of a script are on, the current filter and the current pair, and each call on the filter or on a side.
+// What the calls of a script are on, the current filter, the current pair and the current f32 filter, and each call on the filter or on a side.
 ghost use mathlib.Core.Path.{_≡_};
+use crate::solo;
 use angles::Kind;
 use filter::Answer;
 use filter::Filter;
@@ -12,12 +13,15 @@ use pairs::Side;
 use script::Name;
 use sigma::Params;
 
+// What is held, and whose call the line is.
 pub struct Held {
     pub filter: Filter,
     pub pair: Pair,
+    pub narrow: filter32::Filter,
+    pub whose: Whose,
 }
 
-// Whose call it is: the filter's, or that of a side of the pair.
+// The filter's, or that of a side of the pair.
 pub enum Whose {
     Alone,
     On(Side),
@@ -29,32 +33,51 @@ pub struct Done {
     pub refusal: Verdict,
 }
 
-// A call on the filter leaves the pair, and one on the pair the filter.
-pub fn alone(held: Held, a: Answer) -> Done
-    ensures { λ r. ⌜ r ≡ record { held = record { filter = a .filter; pair = held .pair }; refusal = a .refusal } ⌝ }
+// Another's call is next.
+pub fn turned(held: Held, whose: Whose) -> Held
+    ensures { λ r. ⌜ r ≡ record { filter = held .filter; pair = held .pair; narrow = held .narrow; whose = whose } ⌝ }
 {
-    let filter = a.filter;
+    let filter = held.filter;
     let pair = held.pair;
-    let refusal = a.refusal;
-    Done {
-        held: Held { filter, pair },
-        refusal,
+    let narrow = held.narrow;
+    Held {
+        filter,
+        pair,
+        narrow,
+        whose,
     }
+}
+
+// A call on one of the three leaves the others.
+pub fn alone(held: Held, a: Answer) -> Done
+    ensures { λ r. ⌜ r ≡ record { held = record { filter = a .filter; pair = held .pair; narrow = held .narrow; whose = held .whose }; refusal = a .refusal } ⌝ }
+{
+    let mut held = held;
+    let filter = a.filter;
+    let refusal = a.refusal;
+    held.filter = filter;
+    Done { held, refusal }
 }
 
 pub fn paired(held: Held, a: PairAnswer) -> Done
-    ensures { λ r. ⌜ r ≡ record { held = record { filter = held .filter; pair = a .pair }; refusal = a .refusal } ⌝ }
+    ensures { λ r. ⌜ r ≡ record { held = record { filter = held .filter; pair = a .pair; narrow = held .narrow; whose = held .whose }; refusal = a .refusal } ⌝ }
 {
-    let filter = held.filter;
+    let mut held = held;
     let pair = a.pair;
     let refusal = a.refusal;
-    Done {
-        held: Held { filter, pair },
-        refusal,
-    }
+    held.pair = pair;
+    Done { held, refusal }
 }
 
-// A reading leaves both.
+pub fn narrowed(held: Held, narrow: filter32::Filter) -> Held
+    ensures { λ r. ⌜ r ≡ record { filter = held .filter; pair = held .pair; narrow = narrow; whose = held .whose } ⌝ }
+{
+    let mut held = held;
+    held.narrow = narrow;
+    held
+}
+
+// A reading leaves all.
 fn read(held: Held, refusal: Verdict) -> Done
     ensures { λ r. ⌜ r ≡ record { held = held; refusal = refusal } ⌝ }
 {
@@ -62,11 +85,12 @@ fn read(held: Held, refusal: Verdict) -> Done
 }
 
 // The filter, or a side with the sheet.
-pub fn shown(held: Held, whose: Whose) -> Filter {
+pub fn shown(held: Held) -> Filter {
     let pair = held.pair;
     let sheet = pair.sheet;
     let first = pair.first;
     let second = pair.second;
+    let whose = held.whose;
     match whose {
         Whose::Alone => held.filter,
         Whose::On(side) => match side {
@@ -83,16 +107,6 @@ pub fn shown(held: Held, whose: Whose) -> Filter {
 }
 
 // What a call does that is lent a list.
-fn alone_list(name: Name, held: Held, list: &[f64]) -> Done {
-    let filter = held.filter;
-    match name {
-        Name::SetX => alone(held, filter.set_x(list)),
-        Name::SetP => alone(held, filter.set_p(list)),
-        Name::SetQ => alone(held, filter.set_q(list)),
-        _ => alone(held, filter.close_prediction(list)),
-    }
-}
-
 fn side_list(name: Name, held: Held, side: Side, list: &[f64]) -> Done {
     let pair = held.pair;
     match name {
@@ -103,26 +117,16 @@ fn side_list(name: Name, held: Held, side: Side, list: &[f64]) -> Done {
     }
 }
 
-pub fn with_list(name: Name, held: Held, whose: Whose, list: &[f64]) -> Done {
+pub fn with_list(name: Name, held: Held, list: &[f64]) -> Done {
+    let filter = held.filter;
+    let whose = held.whose;
     match whose {
-        Whose::Alone => alone_list(name, held, list),
+        Whose::Alone => alone(held, solo::with_list(name, filter, list)),
         Whose::On(side) => side_list(name, held, side, list),
     }
 }
 
 // A call that is lent a buffer.
-fn alone_buffer(name: Name, held: Held, buffer: &mut [f64]) -> Done {
-    let filter = held.filter;
-    match name {
-        Name::OpenPrediction => alone(held, filter.open_prediction(buffer)),
-        Name::OpenCorrection => alone(held, filter.open_correction(buffer)),
-        Name::ReadX => read(held, filter.read_x(buffer)),
-        Name::ReadP => read(held, filter.read_p(buffer)),
-        Name::ReadQ => read(held, filter.read_q(buffer)),
-        _ => read(held, filter.read_points(buffer)),
-    }
-}
-
 fn side_buffer(name: Name, held: Held, side: Side, buffer: &mut [f64]) -> Done {
     let pair = held.pair;
     match name {
@@ -135,9 +139,11 @@ fn side_buffer(name: Name, held: Held, side: Side, buffer: &mut [f64]) -> Done {
     }
 }
 
-pub fn with_buffer(name: Name, held: Held, whose: Whose, buffer: &mut [f64]) -> Done {
+pub fn with_buffer(name: Name, held: Held, buffer: &mut [f64]) -> Done {
+    let filter = held.filter;
+    let whose = held.whose;
     match whose {
-        Whose::Alone => alone_buffer(name, held, buffer),
+        Whose::Alone => alone(held, solo::with_buffer(name, filter, buffer)),
         Whose::On(side) => side_buffer(name, held, side, buffer),
     }
 }
@@ -181,58 +187,63 @@ fn side_close(
 pub fn with_measurement(
     name: Name,
     held: Held,
-    whose: Whose,
     m: usize,
     z: &[f64],
     r: &[f64],
     kinds: [Kind; 4],
     observed: &[f64],
 ) -> Done {
+    let whose = held.whose;
     match whose {
         Whose::Alone => alone_close(name, held, m, z, r, kinds, observed),
         Whose::On(side) => side_close(name, held, side, m, z, r, kinds, observed),
     }
 }
 
-pub fn set_params(held: Held, whose: Whose, params: Params) -> Done {
+pub fn set_params(held: Held, params: Params) -> Done {
     let filter = held.filter;
     let pair = held.pair;
+    let whose = held.whose;
     match whose {
         Whose::Alone => alone(held, filter.set_params(params)),
         Whose::On(_) => paired(held, pair.set_params(params)),
     }
 }
 
-pub fn set_kind(held: Held, whose: Whose, i: usize, kind: Kind) -> Done {
+pub fn set_kind(held: Held, i: usize, kind: Kind) -> Done {
     let filter = held.filter;
     let pair = held.pair;
+    let whose = held.whose;
     match whose {
         Whose::Alone => alone(held, filter.set_kind(i, kind)),
         Whose::On(_) => paired(held, pair.set_kind(i, kind)),
     }
 }
 
-pub fn abandon(held: Held, whose: Whose) -> Done {
+pub fn abandon(held: Held) -> Done {
     let filter = held.filter;
     let pair = held.pair;
+    let whose = held.whose;
     match whose {
         Whose::Alone => alone(held, filter.abandon()),
         Whose::On(side) => paired(held, pair.abandon(side)),
     }
 }
 
-pub fn read_params(held: Held, whose: Whose) -> ParamsRead {
+pub fn read_params(held: Held) -> ParamsRead {
     let filter = held.filter;
     let pair = held.pair;
+    let whose = held.whose;
     match whose {
         Whose::Alone => filter.read_params(),
         Whose::On(side) => pair.read_params(side),
     }
 }
 
-pub fn read_stale(held: Held, whose: Whose) -> StaleRead {
+pub fn read_stale(held: Held) -> StaleRead {
     let filter = held.filter;
     let pair = held.pair;
+    let whose = held.whose;
     match whose {
         Whose::Alone => filter.read_stale(),
         Whose::On(side) => pair.read_stale(side),

@@ -1,6 +1,7 @@
-// Reads a script of calls on standard input, runs them on a filter and on a pair, and writes the answers to standard output.
+// Reads a script of calls on standard input, runs them on a filter, on a pair and on a filter at f32, and writes the answers to standard output.
 // The input is read in pieces; a line is gathered from them and answered, and what the answers gather is written once the lines of a piece are done.
 use crate::held::Held;
+use crate::held::Whose;
 use filter::Filter;
 use libc::STDIN_FILENO;
 use libc::STDOUT_FILENO;
@@ -10,6 +11,7 @@ use sigma::Params;
 mod answers;
 mod calls;
 mod held;
+mod solo;
 
 // What is held, how many bytes of the line that is being read are there, how many bytes of answers wait, and whether the input goes on.
 struct Run {
@@ -19,7 +21,7 @@ struct Run {
     going: bool,
 }
 
-// Before the first `new` stands the empty filter, and before the first `newpair` the empty pair, as New gives them where it refuses.
+// Before the first `new` stands the empty filter, before the first `newpair` the empty pair, and before the first `@w new` the empty f32 filter, as New gives them where it refuses.
 fn start() -> Run {
     let params = Params {
         alpha: 0.0,
@@ -32,7 +34,12 @@ fn start() -> Run {
     let filter = a.filter;
     let pair = b.pair;
     Run {
-        held: Held { filter, pair },
+        held: Held {
+            filter,
+            pair,
+            narrow: replay32::start(),
+            whose: Whose::Alone,
+        },
         line: 0,
         used: 0,
         going: true,

@@ -1,4 +1,4 @@
-// IEEE 754's squareRoot of an f32, to nearest, worked from the bits: sign, exponent and fraction. At f32: made from crates/root by narrow.py.
+// IEEE 754's squareRoot of an f32, to nearest, worked from the bits: sign, exponent and fraction. At f32, made from crates/root by ./narrow.py: edit there.
 // The answer is a root, or refusal 56 for a NaN, an infinity and what is below zero.
 ghost use mathlib.Core.Path.{_≡_};
 ghost use Prim.Native.Nat.{ℕ, _*_, _^_, _≤_, _<_};

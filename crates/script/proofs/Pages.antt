@@ -8,10 +8,11 @@ use native.Mathlib.Numerals.{add-one}
 use native.Mathlib.Omega.{arith}
 use borrow.Author.Tests.{leb-true, le-leb, lt-leb}
 use lib.Dec.{T, leb, ltb, ltb→lt, nltb→le}
-use lib.Ieee.{Float, nan, binary64, toBits}
+use lib.Ieee.{Float, nan, Format, toBits}
 use lib.ListN.{length, getD, set, take, drop, length-take, drop-of-length-le}
 use lib.Seq.{paste, paste-zero, paste-suc, length-paste, drop-cons, getD-take}
 use Rattle.io.specs.Digits.{digits, Fewest}
+use Rattle.words.specs.Words.{width}
 use Rattle.script.specs.Page.{Page, page, putOf, wordText, putNumber, putNumbers}
 
 -- how many are used then, and the bytes
@@ -63,56 +64,56 @@ same-size s p = go (leb (p .used + length s) (length (p .bytes))) (leb-true _ _)
     go true f = length-paste (p .bytes) (p .used) s (length s) (f refl) (omega arith)
     go false f = refl
 
--- 16 hex digits hold a number below 2^64, and no fewer are asked for
-pub sixteen : (n k : ℕ) → Fewest 16 16 n k → n < 2 ^ 64 → k ≡ 16
-sixteen n k (least, holds, fewest) h = go (ltb 16 k) (ltb→lt 16 k) (nltb→le 16 k)
+-- as many hex digits as a word has hold its number, and no fewer are asked for
+just : (w n k : ℕ) → Fewest 16 w n k → n < 16 ^ w → k ≡ w
+just w n k (least, holds, fewest) h = go (ltb w k) (ltb→lt w k) (nltb→le w k)
   where
-    go : (t : Bool) → (T t → 16 < k) → (T (not t) → k ≤ 16) → k ≡ 16
+    go : (t : Bool) → (T t → w < k) → (T (not t) → k ≤ w) → k ≡ w
     go true f g =
         let l = f tt in
-        let m : 16 ≤ k - 1 = omega arith in
+        let m : w ≤ k - 1 = omega arith in
         absurd (omega (arith, fewest l, pow-le-pow-right (zero-lt-suc 15) m))
     go false f g = let l = g tt in omega arith
 
-pub word-text : (n k : ℕ) {l : List ℕ} → Fewest 16 16 n k → n < 2 ^ 64 → l ≡ digits 16 k n → l ≡ wordText n
+pub word-text : (f : Format) (n k : ℕ) {l : List ℕ} → Fewest 16 (width f) n k → n < 16 ^ width f → l ≡ digits 16 k n → l ≡ wordText f n
 unfolding wordText
-word-text n k w h e = e ∙ ap (λ (m : ℕ). digits 16 m n) (sixteen n k w h)
+word-text f n k w h e = e ∙ ap (λ (m : ℕ). digits 16 m n) (just (width f) n k w h)
 
 -- a blank, then the text of a word
-pub number-put : (x : Float) (l₀ : List ℕ) (n₀ : ℕ) {l₁ l₂ : List ℕ} {n₁ n₂ : ℕ} {t : List ℕ}
-    → Shows n₁ l₁ (putOf (32 ∷ []) (page l₀ n₀)) → t ≡ wordText (toBits binary64 x) → Shows n₂ l₂ (putOf t (page l₁ n₁))
-    → Shows n₂ l₂ (putNumber x (page l₀ n₀))
-number-put x l₀ n₀ {t = t} a e b =
+pub number-put : (f : Format) (x : Float) (l₀ : List ℕ) (n₀ : ℕ) {l₁ l₂ : List ℕ} {n₁ n₂ : ℕ} {t : List ℕ}
+    → Shows n₁ l₁ (putOf (32 ∷ []) (page l₀ n₀)) → t ≡ wordText f (toBits f x) → Shows n₂ l₂ (putOf t (page l₁ n₁))
+    → Shows n₂ l₂ (putNumber f x (page l₀ n₀))
+number-put f x l₀ n₀ {t = t} a e b =
     shows (made b ∙ ap (λ (p : Page). putOf t p) (made a) ∙ ap (λ (u : List ℕ). putOf u (putOf (32 ∷ []) (page l₀ n₀))) e)
 
 -- i numbers are on the page, and what is left comes to the whole
-pub record Printed (s : List Float) (k : ℕ) (l₀ : List ℕ) (n₀ i : ℕ) (l : List ℕ) (n : ℕ) : Type 0 where
+pub record Printed (f : Format) (s : List Float) (k : ℕ) (l₀ : List ℕ) (n₀ i : ℕ) (l : List ℕ) (n : ℕ) : Type 0 where
   pub size : length l ≡ length l₀
-  pub comes : putNumbers (drop i (take k s)) (page l n) ≡ putNumbers (take k s) (page l₀ n₀)
+  pub comes : putNumbers f (drop i (take k s)) (page l n) ≡ putNumbers f (take k s) (page l₀ n₀)
 
-pub printed-none : {s : List Float} {k : ℕ} {l : List ℕ} {n : ℕ} → Printed s k l n 0 l n
+pub printed-none : {f : Format} {s : List Float} {k : ℕ} {l : List ℕ} {n : ℕ} → Printed f s k l n 0 l n
 printed-none = record { size = refl; comes = refl }
 
-empty : (p : Page) → p ≡ putNumbers [] p
+empty : (f : Format) (p : Page) → p ≡ putNumbers f [] p
 unfolding putNumbers
-empty p = refl
+empty f p = refl
 
-module _ {s : List Float} {k : ℕ} {l₀ : List ℕ} {n₀ i : ℕ} {l : List ℕ} {n : ℕ} (r : Printed s k l₀ n₀ i l n) where
-  pub printed-more : {m : List ℕ} {next : ℕ} → i < k → i < length s → Shows next m (putNumber (getD s i nan) (page l n)) → Printed s k l₀ n₀ (i + 1) m next
+module _ {f : Format} {s : List Float} {k : ℕ} {l₀ : List ℕ} {n₀ i : ℕ} {l : List ℕ} {n : ℕ} (r : Printed f s k l₀ n₀ i l n) where
+  pub printed-more : {m : List ℕ} {next : ℕ} → i < k → i < length s → Shows next m (putNumber f (getD s i nan) (page l n)) → Printed f s k l₀ n₀ (i + 1) m next
   unfolding putNumbers
-  printed-more {m} {next} h b w = record { size = ap length (w .1) ∙ kept ∙ r .size; comes = ap (λ (p : Page). putNumbers (drop (i + 1) (take k s)) p) (made w) ∙ step ∙ r .comes }
+  printed-more {m} {next} h b w = record { size = ap length (w .1) ∙ kept ∙ r .size; comes = ap (λ (p : Page). putNumbers f (drop (i + 1) (take k s)) p) (made w) ∙ step ∙ r .comes }
     where
-      kept : length (putNumber (getD s i nan) (page l n) .bytes) ≡ length l
-      kept = same-size (wordText (toBits binary64 (getD s i nan))) (putOf (32 ∷ []) (page l n)) ∙ same-size (32 ∷ []) (page l n)
+      kept : length (putNumber f (getD s i nan) (page l n) .bytes) ≡ length l
+      kept = same-size (wordText f (toBits f (getD s i nan))) (putOf (32 ∷ []) (page l n)) ∙ same-size (32 ∷ []) (page l n)
 
       long : i < length (take k s)
       long = simp length-take (omega arith)
 
-      step : putNumbers (drop (i + 1) (take k s)) (putNumber (getD s i nan) (page l n)) ≡ putNumbers (drop i (take k s)) (page l n)
+      step : putNumbers f (drop (i + 1) (take k s)) (putNumber f (getD s i nan) (page l n)) ≡ putNumbers f (drop i (take k s)) (page l n)
       step = rw (add-one i, drop-cons (take k s) i nan long, getD-take k s i nan h)
 
-  pub printed-over : min k (length s) ≤ i → Shows n l (putNumbers (take k s) (page l₀ n₀))
-  printed-over h = shows (empty (page l n) ∙ ap (λ (m : List Float). putNumbers m (page l n)) (sym none) ∙ r .comes)
+  pub printed-over : min k (length s) ≤ i → Shows n l (putNumbers f (take k s) (page l₀ n₀))
+  printed-over h = shows (empty f (page l n) ∙ ap (λ (m : List Float). putNumbers f m (page l n)) (sym none) ∙ r .comes)
     where
       short : length (take k s) ≤ i
       short = simp length-take h

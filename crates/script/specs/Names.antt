@@ -1,11 +1,11 @@
--- The names of the calls, each with the call that it names, and of the two sides of a pair. Definitions only.
+-- The names of the calls, each with the call that it names, of the two sides of a pair and of the f32 filter. Definitions only.
 use Prim.Native.Nat.{ℕ}
 use mathlib.Core.Bool.{cond}
 use mathlib.Core.List.{List, [], _∷_}
 use Rattle.script.specs.Text.{tokenOf, partOf, sameBytes}
 use Rattle.script.specs.declared.text.Token.{Token}
 use Rattle.script.specs.declared.names.Name.{Name}
-use Rattle.script.specs.declared.names.Name.the-variants.{New, SetX, SetP, SetQ, SetParams, SetKind, OpenPrediction, OpenCorrection, ClosePrediction, CloseCorrection, CloseCorrectionFlat, Abandon, ReadX, ReadP, ReadQ, ReadPoints, ReadParams, ReadStale, Point, Wrap, Root, Dump, NewPair, First, Second, Unknown}
+use Rattle.script.specs.declared.names.Name.the-variants.{New, SetX, SetP, SetQ, SetParams, SetKind, OpenPrediction, OpenCorrection, ClosePrediction, CloseCorrection, CloseCorrectionFlat, Abandon, ReadX, ReadP, ReadQ, ReadPoints, ReadParams, ReadStale, Point, Wrap, Root, Dump, NewPair, First, Second, Narrow, Unknown}
 use Rattle.script.specs.declared.names.Call.{Call}
 
 -- a name, in bytes, and its call
@@ -28,6 +28,7 @@ others =
     record { word = 110 ∷ 101 ∷ 119 ∷ 112 ∷ 97 ∷ 105 ∷ 114 ∷ []; call = NewPair } ∷  -- newpair
     record { word = 64 ∷ 49 ∷ []; call = First } ∷  -- @1
     record { word = 64 ∷ 50 ∷ []; call = Second } ∷  -- @2
+    record { word = 64 ∷ 119 ∷ []; call = Narrow } ∷  -- @w
     []
 
 abbrev pub readings : List Entry

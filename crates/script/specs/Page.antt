@@ -1,13 +1,17 @@
 -- Bytes that are lent for an answer, and how many of them are used. Definitions only.
 use Prim.Native.Nat.{ℕ, _+_}
 use mathlib.Core.Path.{_≡_}
-use mathlib.Core.Bool.{cond}
+use mathlib.Core.Bool.{Bool, cond}
 use mathlib.Core.List.{List, [], _∷_}
 use lib.Dec.{leb}
-use lib.Ieee.{Float, binary64, toBits}
+use lib.Ieee.{Float, Format, toBits}
 use lib.ListN.{length}
 use lib.Seq.{paste}
 use Rattle.io.specs.Digits.{digits, Fewest}
+use Rattle.floats.specs.declared.Verdict.{Verdict}
+use Rattle.filter.specs.declared.Stage.{Stage}
+use Rattle.filter.specs.declared.Stage.the-variants.{Shut, Predicting, Correcting}
+use Rattle.words.specs.Words.{width}
 
 pub record Page : Type 0 where
   pub bytes : List ℕ
@@ -27,15 +31,35 @@ pub record Decimal (n : ℕ) (p : Page) (used : ℕ) (bytes : List ℕ) : Type 0
   pub count : used ≡ putOf (digits 10 places n) p .used
   pub text : bytes ≡ putOf (digits 10 places n) p .bytes
 
--- the 16 hex digits of a number below 2^64
-unfoldable pub wordText : ℕ → List ℕ
-wordText n = digits 16 16 n
+-- a refusal, or 0, then a blank and its place; half is the page before the place
+pub record Verdicted (v : Verdict) (p : Page) (used : ℕ) (bytes : List ℕ) : Type 0 where
+  pub half : Page
+  pub number : Decimal (v .number) p (half .used) (half .bytes)
+  pub place : Decimal (v .place) (putOf (32 ∷ []) half) used bytes
+
+-- a blank and 0 or 1
+abbrev pub bitText : Bool → List ℕ
+bitText b = 32 ∷ cond b 49 48 ∷ []
+
+-- what is open: nothing, a prediction or a correction, by the sign - or the letter p or c
+abbrev pub stageSign : Stage → ℕ
+stageSign Shut = 45
+stageSign Predicting = 112
+stageSign Correcting = 99
+
+-- a blank, the word open, a blank and the sign
+abbrev pub stageText : Stage → List ℕ
+stageText s = 32 ∷ 111 ∷ 112 ∷ 101 ∷ 110 ∷ 32 ∷ stageSign s ∷ []
+
+-- the hex digits of a word
+unfoldable pub wordText : Format → ℕ → List ℕ
+wordText f n = digits 16 (width f) n
 
 -- a blank and the word of a float
-abbrev pub putNumber : Float → Page → Page
-putNumber x p = putOf (wordText (toBits binary64 x)) (putOf (32 ∷ []) p)
+abbrev pub putNumber : Format → Float → Page → Page
+putNumber f x p = putOf (wordText f (toBits f x)) (putOf (32 ∷ []) p)
 
 -- the floats of a list, one after another
-unfoldable pub putNumbers : List Float → Page → Page
-putNumbers [] p = p
-putNumbers (x ∷ l) p = putNumbers l (putNumber x p)
+unfoldable pub putNumbers : Format → List Float → Page → Page
+putNumbers f [] p = p
+putNumbers f (x ∷ l) p = putNumbers f l (putNumber f x p)

@@ -1,9 +1,12 @@
 // The text of a script of calls, taken apart (bytes and tokens, sizes, numbers, lists and kinds, the call that a line names) and written (answers, put into lent bytes).
+pub mod counts;
 pub mod names;
 pub mod numbers;
 pub mod text;
 pub mod write;
 
+pub use counts::point_numbers;
+pub use counts::times;
 pub use names::Call;
 pub use names::Name;
 pub use names::call_at;
@@ -29,6 +32,9 @@ pub use text::token_at;
 pub use write::first;
 pub use write::gather;
 pub use write::put;
+pub use write::put_bit;
 pub use write::put_decimal;
 pub use write::put_number;
 pub use write::put_numbers;
+pub use write::put_stage;
+pub use write::put_verdict;

@@ -31,10 +31,11 @@ pub enum Name {
     NewPair,
     First,
     Second,
+    Narrow,
     Unknown,
 }
 
-// The same among the last seven. `@1` and `@2` name no call but a side of the pair: the call on it follows.
+// The same among the last eight. `@1` and `@2` name no call but a side of the pair, and `@w` the f32 filter: the call on it follows.
 fn other_of(token: &[u8]) -> Name
     ensures { λ r. ⌜ r ≡ named others (now (token .entry)) ⌝ }
 {
@@ -58,6 +59,9 @@ fn other_of(token: &[u8]) -> Name
     }
     if same_bytes(token, b"@2") {
         return Name::Second;
+    }
+    if same_bytes(token, b"@w") {
+        return Name::Narrow;
     }
     Name::Unknown
 }

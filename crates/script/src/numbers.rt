@@ -1,7 +1,7 @@
 // Sizes, numbers, lists and kinds, each read from the next tokens of a line: what was read and the place after it, or that it is none.
 ghost use mathlib.Core.Path.{_≡_};
 ghost use Prim.Native.Nat.{ℕ, _<_};
-ghost use lib.Ieee.{nan};
+ghost use lib.Ieee.{nan, binary64};
 ghost use lib.ListN.{length, take, getD};
 ghost use Rattle.script.specs.Numbers.{sizeOf, numberOf, listOf, kindOf, markOf};
 use crate::text::part;
@@ -49,7 +49,7 @@ pub enum NumberRead {
 
 // A token of 16 hex digits, the bits of a float.
 pub fn number_at(s: &[u8], at: usize) -> NumberRead
-    ensures { λ r. ⌜ r ≡ numberOf (now (s .entry)) at ⌝ }
+    ensures { λ r. ⌜ r ≡ numberOf binary64 (now (s .entry)) at ⌝ }
 {
     let t = token_at(s, at);
     let start = t.start;
@@ -76,8 +76,8 @@ pub enum ListRead {
 
 // A size of at most 512, then that many numbers, put one after another at the front of out.
 pub fn list_at(s: &[u8], at: usize, out: &mut [f64; 512]) -> ListRead
-    ensures { λ r. ⌜ r ≡ listOf (now (s .entry)) at (now (out .entry)) .read ⌝ }
-    ensures { λ _. ⌜ now (out .exit) ≡ listOf (now (s .entry)) at (now (out .entry)) .numbers ⌝ }
+    ensures { λ r. ⌜ r ≡ listOf binary64 (now (s .entry)) at (now (out .entry)) .read ⌝ }
+    ensures { λ _. ⌜ now (out .exit) ≡ listOf binary64 (now (s .entry)) at (now (out .entry)) .numbers ⌝ }
 {
     let SizeRead::Size { value, next } = size_at(s, at) else {
         return ListRead::NoList;
@@ -122,7 +122,7 @@ pub fn front(list: &[f64; 512], len: usize) -> &[f64]
 // A buffer in which what was not written can be seen: place i holds 2^52 + i.
 pub fn marked() -> [f64; 512]
     ensures { λ r. ⌜ 512 ≡ length r ⌝ }
-    ensures { λ r. ⌜ ((i : ℕ) → i < 512 → getD r i nan ≡ markOf i) ⌝ }
+    ensures { λ r. ⌜ ((i : ℕ) → i < 512 → getD r i nan ≡ markOf binary64 i) ⌝ }
 {
     let mut buffer = [0.0f64; 512];
     for i in 0..512 {
@@ -138,7 +138,7 @@ pub enum KindRead {
 
 // The letter p, or the letter t and then a half-turn.
 pub fn kind_at(s: &[u8], at: usize) -> KindRead
-    ensures { λ r. ⌜ r ≡ kindOf (now (s .entry)) at ⌝ }
+    ensures { λ r. ⌜ r ≡ kindOf binary64 (now (s .entry)) at ⌝ }
 {
     let t = token_at(s, at);
     let letters = part(s, t);

@@ -1,8 +1,11 @@
 // An answer's text, put piece by piece into lent bytes: at is how many of them are used, and what has no room is left out.
 ghost use mathlib.Core.Path.{_≡_};
 ghost use Prim.Native.Nat.{_-_};
+ghost use lib.Ieee.{binary64};
 ghost use lib.ListN.{length, take};
-ghost use Rattle.script.specs.Page.{page, putOf, Decimal, putNumber, putNumbers};
+ghost use Rattle.script.specs.Page.{page, putOf, Decimal, Verdicted, bitText, stageText, putNumber, putNumbers};
+use filter::Stage;
+use floats::Verdict;
 
 // The bytes of s after those that are used; how many are used then.
 pub fn put(out: &mut [u8], at: usize, s: &[u8]) -> usize
@@ -61,10 +64,42 @@ pub fn put_decimal(out: &mut [u8], at: usize, n: u64) -> usize
     put(out, at, &text[..k])
 }
 
+// A refusal, or 0, with its place.
+pub fn put_verdict(out: &mut [u8], at: usize, v: Verdict) -> usize
+    ensures { λ r. ⌜ Verdicted v (page (now (out .entry)) at) r (now (out .exit)) ⌝ }
+{
+    let next = put_decimal(out, at, v.number as u64);
+    let next = put(out, next, b" ");
+    put_decimal(out, next, v.place as u64)
+}
+
+// A blank and a bit.
+pub fn put_bit(out: &mut [u8], at: usize, b: bool) -> usize
+    ensures { λ r. ⌜ r ≡ putOf (bitText b) (page (now (out .entry)) at) .used ⌝ }
+    ensures { λ _. ⌜ now (out .exit) ≡ putOf (bitText b) (page (now (out .entry)) at) .bytes ⌝ }
+{
+    if b {
+        return put(out, at, b" 1");
+    }
+    put(out, at, b" 0")
+}
+
+// What is open.
+pub fn put_stage(out: &mut [u8], at: usize, stage: Stage) -> usize
+    ensures { λ r. ⌜ r ≡ putOf (stageText stage) (page (now (out .entry)) at) .used ⌝ }
+    ensures { λ _. ⌜ now (out .exit) ≡ putOf (stageText stage) (page (now (out .entry)) at) .bytes ⌝ }
+{
+    match stage {
+        Stage::Shut => put(out, at, b" open -"),
+        Stage::Predicting => put(out, at, b" open p"),
+        Stage::Correcting => put(out, at, b" open c"),
+    }
+}
+
 // A blank and the 16 hex digits of a float.
 pub fn put_number(out: &mut [u8], at: usize, x: f64) -> usize
-    ensures { λ r. ⌜ r ≡ putNumber x (page (now (out .entry)) at) .used ⌝ }
-    ensures { λ _. ⌜ now (out .exit) ≡ putNumber x (page (now (out .entry)) at) .bytes ⌝ }
+    ensures { λ r. ⌜ r ≡ putNumber binary64 x (page (now (out .entry)) at) .used ⌝ }
+    ensures { λ _. ⌜ now (out .exit) ≡ putNumber binary64 x (page (now (out .entry)) at) .bytes ⌝ }
 {
     let mut text = [0u8; 16];
     let k = io::hex(words::bits_of(x), 16, &mut text);
@@ -74,8 +109,8 @@ pub fn put_number(out: &mut [u8], at: usize, x: f64) -> usize
 
 // The first k floats of s, as far as it has them.
 pub fn put_numbers(out: &mut [u8], at: usize, s: &[f64], k: usize) -> usize
-    ensures { λ r. ⌜ r ≡ putNumbers (take k (now (s .entry))) (page (now (out .entry)) at) .used ⌝ }
-    ensures { λ _. ⌜ now (out .exit) ≡ putNumbers (take k (now (s .entry))) (page (now (out .entry)) at) .bytes ⌝ }
+    ensures { λ r. ⌜ r ≡ putNumbers binary64 (take k (now (s .entry))) (page (now (out .entry)) at) .used ⌝ }
+    ensures { λ _. ⌜ now (out .exit) ≡ putNumbers binary64 (take k (now (s .entry))) (page (now (out .entry)) at) .bytes ⌝ }
 {
     let mut next = at;
     let mut i = 0usize;

@@ -1,4 +1,4 @@
-// The draw of 2n+1 points from x and P. At f32: made from crates/sigma by narrow.py.
+// The draw of 2n+1 points from x and P. At f32, made from crates/sigma by ./narrow.py: edit there.
 ghost use mathlib.Core.Path.{_≡_};
 ghost use Prim.Native.Nat.{_+_, _<_, _≤_};
 ghost use lib.Ieee.{binary32};

@@ -1,4 +1,4 @@
-// The mean of points taken from point 0: points of d numbers each, the last of index t. At f32: made from crates/sigma by narrow.py.
+// The mean of points taken from point 0: points of d numbers each, the last of index t. At f32, made from crates/sigma by ./narrow.py: edit there.
 ghost use mathlib.Core.Path.{_≡_};
 ghost use Prim.Native.Nat.{_<_, _≤_};
 ghost use lib.Ieee.{binary32};

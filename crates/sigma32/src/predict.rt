@@ -1,4 +1,4 @@
-// The prediction: x and P from propagated points. At f32: made from crates/sigma by narrow.py.
+// The prediction: x and P from propagated points. At f32, made from crates/sigma by ./narrow.py: edit there.
 ghost use mathlib.Core.Path.{_≡_};
 ghost use Prim.Native.Nat.{_≤_};
 ghost use lib.Ieee.{binary32};

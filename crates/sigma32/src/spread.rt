@@ -1,4 +1,4 @@
-// Deviations from a mean, and the weighted sums of their products over the points 0 to t: P, S and the cross covariance. At f32: made from crates/sigma by narrow.py.
+// Deviations from a mean, and the weighted sums of their products over the points 0 to t: P, S and the cross covariance. At f32, made from crates/sigma by ./narrow.py: edit there.
 ghost use mathlib.Core.Path.{_≡_};
 ghost use Prim.Native.Nat.{_<_, _≤_};
 ghost use lib.Ieee.{binary32};

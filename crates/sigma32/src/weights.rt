@@ -1,4 +1,4 @@
-// The weights of n states by the three parameters. Each operation is rounded once, in document 01's order. At f32: made from crates/sigma by narrow.py.
+// The weights of n states by the three parameters. Each operation is rounded once, in document 01's order. At f32, made from crates/sigma by ./narrow.py: edit there.
 ghost use mathlib.Core.Path.{_≡_};
 ghost use Prim.Native.Nat.{_≤_};
 ghost use lib.Ieee.{binary32};

@@ -3,7 +3,7 @@ use mathlib.Core.Path.{_≡_, refl, sym, _∙_}
 use mathlib.Core.Bool.{true, false, not, true≢false}
 use Prim.Native.Nat.{ℕ}
 use lib.Dec.{T}
-use lib.Ieee.{Float, nan, inf, fin, binary64, isNan, ne, div, ofBits, nanBits}
+use lib.Ieee.{Float, nan, inf, fin, Format, binary32, binary64, isNan, ne, div, ofBits, nanBits}
 use lib.Ieee.Bits.{nanBits-is}
 
 pub no-nan : (x : Float) → ne x x ≡ false → T (not (isNan x))
@@ -18,10 +18,11 @@ only-nan nan h = refl
 only-nan (inf s) h = absurd (true≢false (sym h))
 only-nan (fin s m e) h = absurd (true≢false (sym h))
 
-pub nan-read : (b : ℕ) → nanBits binary64 b ≡ true → ofBits binary64 b ≡ nan
-nan-read b h = only-nan (ofBits binary64 b) (sym (nanBits-is binary64 b) ∙ h)
+pub nan-read : (f : Format) (b : ℕ) → nanBits f b ≡ true → ofBits f b ≡ nan
+nan-read f b h = only-nan (ofBits f b) (sym (nanBits-is f b) ∙ h)
 
 -- 0 / 0
-pub nan-made : div binary64 (ofBits binary64 0) (ofBits binary64 0) ≡ nan
+pub nan-made : (f : Format) → div f (ofBits f 0) (ofBits f 0) ≡ nan
 unfolding div ofBits
-nan-made = refl
+nan-made binary32 = refl
+nan-made binary64 = refl

@@ -1,8 +1,9 @@
--- A word: 16 hex digits, the bits of a float. Definitions only.
+-- A word: the bits of a float in hex digits, as many as the format takes. Definitions only.
 use Prim.Native.Nat.{ℕ, zero, suc, _+_, _-_, _*_}
 use mathlib.Core.Bool.{Bool, _&&_, cond}
 use mathlib.Core.List.{List}
 use lib.Dec.{leb, ltb}
+use lib.Ieee.{Format, binary32, binary64}
 use lib.ListN.{getD}
 use Rattle.words.specs.declared.Word.{Word}
 use Rattle.words.specs.declared.Word.the-variants.{Bits, Bad}
@@ -20,6 +21,11 @@ unfolding digitOf
 digitsFrom zero s i v = Bits v
 digitsFrom (suc k) s i v = cond (ltb (digitOf (getD s i 0)) 16) (digitsFrom k s (i + 1) (v * 16 + digitOf (getD s i 0))) Bad
 
+-- how many digits a word has: four bits each
+abbrev pub width : Format → ℕ
+width binary32 = 8
+width binary64 = 16
+
 -- the word that starts at place i
-abbrev pub wordOf : List ℕ → ℕ → Word
-wordOf s i = digitsFrom 16 s i 0
+abbrev pub wordOf : Format → List ℕ → ℕ → Word
+wordOf f s i = digitsFrom (width f) s i 0

@@ -56,19 +56,22 @@ pub enum Word {
     Bad,
 }
 
+// How many digits a word has.
+const DIGITS: usize = 16;
+
 // The word that starts at place at of s.
 pub fn word_at(s: &[u8], at: usize) -> Word
-    ensures { λ r. ⌜ r ≡ wordOf (now (s .entry)) at ⌝ }
+    ensures { λ r. ⌜ r ≡ wordOf binary64 (now (s .entry)) at ⌝ }
 {
-    if s.len() < 16 {
+    if s.len() < DIGITS {
         return Word::Bad;
     }
-    if s.len() - 16 < at {
+    if s.len() - DIGITS < at {
         return Word::Bad;
     }
     let mut v = 0u64;
     let mut k = 0usize;
-    while k < 16 {
+    while k < DIGITS {
         let d = digit(s[at + k]);
         if 16 <= d {
             return Word::Bad;

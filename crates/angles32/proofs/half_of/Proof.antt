@@ -1,4 +1,4 @@
--- `angles::half_of` meets its contract: each arm is given which variant the kind is. Assumes nothing. At f32: made from crates/angles by narrow.py.
+-- `angles::half_of` meets its contract: each arm is given which variant the kind is. Assumes nothing. At f32, made from crates/angles by ./narrow.py: edit there.
 use borrow.Author.Needs.{needs}
 use lib.Ieee.{ofBits}
 use Rattle.angles32.proofs.half_of.Statement.{statement}

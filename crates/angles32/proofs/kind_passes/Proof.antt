@@ -1,4 +1,4 @@
--- `angles::kind_passes` meets its contract: each arm is given which variant the kind is. Assumes nothing. At f32: made from crates/angles by narrow.py.
+-- `angles::kind_passes` meets its contract: each arm is given which variant the kind is. Assumes nothing. At f32, made from crates/angles by ./narrow.py: edit there.
 use borrow.Author.Needs.{needs}
 use Rattle.angles32.proofs.kind_passes.Statement.{statement}
 use Rattle.angles32.proofs.kind_passes.Tie as tie

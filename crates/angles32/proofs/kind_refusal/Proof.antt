@@ -1,4 +1,4 @@
--- `angles::kind_refusal` meets its contract: by the two tests. Assumes nothing. At f32: made from crates/angles by narrow.py.
+-- `angles::kind_refusal` meets its contract: by the two tests. Assumes nothing. At f32, made from crates/angles by ./narrow.py: edit there.
 use borrow.Author.Needs.{needs}
 use borrow.Author.Tests.{not-true, not-false}
 use mathlib.Core.Path.{_≡_, sym, ap, _∙_}

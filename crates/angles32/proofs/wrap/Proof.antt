@@ -1,4 +1,4 @@
--- `angles::wrap` meets its contract: the tests on the way to each answer are those of the definition. Assumes nothing. At f32: made from crates/angles by narrow.py.
+-- `angles::wrap` meets its contract: the tests on the way to each answer are those of the definition. Assumes nothing. At f32, made from crates/angles by ./narrow.py: edit there.
 use borrow.Author.Needs.{needs}
 use borrow.Author.Tests.{not-true, not-false}
 use mathlib.Core.Path.{sym, _∙_}

@@ -1,4 +1,4 @@
--- `apply_correction` meets its contract: at each test, what is left of the plan comes to the whole outcome. Assumes nothing. At f32: made from crates/correction by narrow.py.
+-- `apply_correction` meets its contract: at each test, what is left of the plan comes to the whole outcome. Assumes nothing. At f32, made from crates/correction by ./narrow.py: edit there.
 use Prim.Native.Nat.{_*_}
 use mathlib.Core.Path.{refl, sym, ap, _∙_}
 use borrow.Author.Needs.{needs}

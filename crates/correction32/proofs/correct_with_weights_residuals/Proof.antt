@@ -1,4 +1,4 @@
--- `correct_with_weights_residuals` meets its contract: what each callee has made stands in the head, and the shared steps do the rest. Assumes nothing. At f32: made from crates/correction by narrow.py.
+-- `correct_with_weights_residuals` meets its contract: what each callee has made stands in the head, and the shared steps do the rest. Assumes nothing. At f32, made from crates/correction by ./narrow.py: edit there.
 use Prim.Native.Nat.{_+_, _*_}
 use mathlib.Core.Path.{ap, ap₂, _∙_}
 use mathlib.Core.List.{List}

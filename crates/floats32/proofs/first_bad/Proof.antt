@@ -1,4 +1,4 @@
--- `floats::first_bad` meets its contract: the numbers before i have passed, and the first that fails, the list's end or k decides. Assumes nothing. At f32: made from crates/floats by narrow.py.
+-- `floats::first_bad` meets its contract: the numbers before i have passed, and the first that fails, the list's end or k decides. Assumes nothing. At f32, made from crates/floats by ./narrow.py: edit there.
 use borrow.Author.Needs.{needs}
 use borrow.Author.Tests.{not-true, not-false}
 use mathlib.Core.Path.{sym, ap, _∙_}

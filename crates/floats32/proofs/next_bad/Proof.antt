@@ -1,4 +1,4 @@
--- `floats::next_bad` meets its contract. Assumes nothing. At f32: made from crates/floats by narrow.py.
+-- `floats::next_bad` meets its contract. Assumes nothing. At f32, made from crates/floats by ./narrow.py: edit there.
 use mathlib.Core.Path.{sym, _∙_}
 use borrow.Author.Needs.{needs}
 use Rattle.floats.proofs.Refusals.{earlier-first, earlier-second}

@@ -1,4 +1,4 @@
--- `root::normal_root` meets its contract: s takes one digit more where the exponent is odd, and the root's bits are put together from its exponent and its digits. Assumes nothing. At f32: made from crates/root by narrow.py.
+-- `root::normal_root` meets its contract: s takes one digit more where the exponent is odd, and the root's bits are put together from its exponent and its digits. Assumes nothing. At f32, made from crates/root by ./narrow.py: edit there.
 use borrow.Author.Needs.{needs}
 use mathlib.Core.Path.{_≡_, sym, _∙_}
 use mathlib.Core.Logic.{⊎-elim}

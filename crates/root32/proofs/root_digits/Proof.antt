@@ -1,4 +1,4 @@
--- `root::root_digits` meets its contract: its loop is the recurrence of `Digits`, for d * 2 ^ 23. The measure is the number of digits to come. Assumes nothing. At f32: made from crates/root by narrow.py.
+-- `root::root_digits` meets its contract: its loop is the recurrence of `Digits`, for d * 2 ^ 23. The measure is the number of digits to come. Assumes nothing. At f32, made from crates/root by ./narrow.py: edit there.
 use mathlib.Core.Logic.{⊎-elim}
 use Prim.Native.Nat.{_*_, _^_}
 use native.Mathlib.Omega.{arith}

@@ -1,4 +1,4 @@
--- `root::square_root` meets its contract. Each answer is read off the bits, which stand for x. Assumes nothing. At f32: made from crates/root by narrow.py.
+-- `root::square_root` meets its contract. Each answer is read off the bits, which stand for x. Assumes nothing. At f32, made from crates/root by ./narrow.py: edit there.
 use mathlib.Core.Path.{_≡_, sym, _∙_}
 use Prim.Native.Nat.{_%_, _^_}
 use native.Mathlib.Omega.{arith}

@@ -3,39 +3,41 @@ use borrow.Author.Needs.{needs}
 use Prim.Native.Nat.{_-_, _≤_}
 use mathlib.Core.Path.{sym}
 use native.Mathlib.Omega.{arith}
-use Rattle.words.proofs.Digits.{cut, Read, read-none, read-more, read-bad, read-end, fit}
+use lib.Ieee.{binary64}
+use Rattle.words.specs.Words.{width}
+use Rattle.words.proofs.Digits.{no-word, Read, read-none, read-more, read-bad, read-end, fit}
 use Rattle.words.proofs.word_at.Statement.{statement}
 use Rattle.words.proofs.word_at.Tie as tie
 
 abbrev Inv-loop : tie.InvT-loop
-Inv-loop s at v₀ k₀ v k = (k ≤ 16) × Read s at k v
+Inv-loop s at v₀ k₀ v k = (k ≤ width binary64) × Read binary64 s at k v
 
 abbrev μ-loop : tie.MeasureT-loop
-μ-loop s at v₀ k₀ v k = 16 - k
+μ-loop s at v₀ k₀ v k = width binary64 - k
 
 returns : tie.Need-returns Inv-loop μ-loop
-returns c = sym (cut 15 _ _ 0 (omega arith))
+returns c = sym (no-word binary64 _ _ (omega arith))
 
 returns-2 : tie.Need-returns-2 Inv-loop μ-loop
-returns-2 c = sym (cut 15 _ _ 0 (omega arith))
+returns-2 c = sym (no-word binary64 _ _ (omega arith))
 
 loop-holds : tie.Need-loop-holds Inv-loop μ-loop
 loop-holds c = (omega arith, read-none)
 
 returns-3 : tie.Need-returns-3 Inv-loop μ-loop
-returns-3 c = read-bad (c .before .before .before .before .loop .inv .1) (c .before .before .before .loop-test .taken) (c .before .digit .ensures) (c .if3 .taken)
+returns-3 c = read-bad (c .before .before .before .before .loop .inv .1) (omega arith) (c .before .digit .ensures) (c .if3 .taken)
 
 mul-v : tie.Need-mul-v Inv-loop μ-loop
-mul-v c = omega (arith, fit (c .before .before .before .before .loop .inv .1) (c .before .before .before .loop-test .taken) (c .if3 .left))
+mul-v c = omega (arith, fit (c .before .before .before .before .loop .inv .1) (omega arith) (c .if3 .left))
 
 add-v : tie.Need-add-v Inv-loop μ-loop
-add-v c = omega (arith, fit (c .before .before .before .before .loop .inv .1) (c .before .before .before .loop-test .taken) (c .if3 .left))
+add-v c = omega (arith, fit (c .before .before .before .before .loop .inv .1) (omega arith) (c .if3 .left))
 
 loop-again : tie.Need-loop-again Inv-loop μ-loop
-loop-again c = (omega arith, read-more (c .before .before .before .before .loop .inv .1) (c .before .before .before .loop-test .taken) (c .before .digit .ensures) (c .if3 .left))
+loop-again c = (omega arith, read-more (c .before .before .before .before .loop .inv .1) (omega arith) (c .before .digit .ensures) (c .if3 .left))
 
 returns-4 : tie.Need-returns-4 Inv-loop μ-loop
-returns-4 c = read-end (c .before .loop .inv .1) (c .loop-test .left) (c .before .loop .inv .0)
+returns-4 c = read-end (c .before .loop .inv .1) (omega arith) (omega arith)
 
 pub word-at-spec : {M : Type 1} → statement M
 word-at-spec =

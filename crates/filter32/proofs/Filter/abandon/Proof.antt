@@ -1,4 +1,4 @@
--- `Filter::abandon` meets its contract. Assumes nothing. At f32: made from crates/filter by narrow.py.
+-- `Filter::abandon` meets its contract. Assumes nothing. At f32, made from crates/filter by ./narrow.py: edit there.
 use mathlib.Core.Path.{refl, sym, ap, _∙_}
 use mathlib.Core.Bool.{not}
 use borrow.Author.Needs.{needs}

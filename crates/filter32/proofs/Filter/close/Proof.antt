@@ -1,4 +1,4 @@
--- `Filter::close` meets its contract: by whether the number is 0. Assumes nothing. At f32: made from crates/filter by narrow.py.
+-- `Filter::close` meets its contract: by whether the number is 0. Assumes nothing. At f32, made from crates/filter by ./narrow.py: edit there.
 use borrow.Author.Tests.{eq-eqb, ne-eqb}
 use lib.Ieee.{ofBits}
 use Rattle.floats.specs.Numbers.{zeros}

@@ -1,4 +1,4 @@
--- `Filter::close_correction` meets its contract. Assumes nothing. At f32: made from crates/filter by narrow.py.
+-- `Filter::close_correction` meets its contract. Assumes nothing. At f32, made from crates/filter by ./narrow.py: edit there.
 use mathlib.Core.Path.{_≡_, refl, ap, ap₂, _∙_}
 use mathlib.Core.Bool.{true}
 use mathlib.Core.List.{List}

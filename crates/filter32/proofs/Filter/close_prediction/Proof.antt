@@ -1,4 +1,4 @@
--- `Filter::close_prediction` meets its contract. Assumes nothing. At f32: made from crates/filter by narrow.py.
+-- `Filter::close_prediction` meets its contract. Assumes nothing. At f32, made from crates/filter by ./narrow.py: edit there.
 use Prim.Native.Nat.{ℕ, _≤_}
 use mathlib.Core.Path.{_≡_, ap, ap₂, _∙_}
 use mathlib.Core.Bool.{false}

@@ -1,4 +1,4 @@
--- `Filter::new` meets its contract: by those of its parts. Assumes nothing. At f32: made from crates/filter by narrow.py.
+-- `Filter::new` meets its contract: by those of its parts. Assumes nothing. At f32, made from crates/filter by ./narrow.py: edit there.
 use mathlib.Core.Path.{sym, ap, ap₂, _∙_}
 use mathlib.Core.List.{[], _∷_}
 use borrow.Author.Needs.{needs}

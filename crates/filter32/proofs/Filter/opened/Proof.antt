@@ -1,4 +1,4 @@
--- `Filter::opened` meets its contract. Assumes nothing. At f32: made from crates/filter by narrow.py.
+-- `Filter::opened` meets its contract. Assumes nothing. At f32, made from crates/filter by ./narrow.py: edit there.
 use Prim.Native.Nat.{ℕ}
 use mathlib.Core.Path.{ap, ap₂, _∙_}
 use borrow.Author.Needs.{needs}

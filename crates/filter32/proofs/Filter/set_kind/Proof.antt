@@ -1,4 +1,4 @@
--- `Filter::set_kind` meets its contract. Assumes nothing. At f32: made from crates/filter by narrow.py.
+-- `Filter::set_kind` meets its contract. Assumes nothing. At f32, made from crates/filter by ./narrow.py: edit there.
 use Prim.Native.Nat.{_<_, _-_}
 use mathlib.Core.Bool.{Bool, true, _&&_}
 use borrow.Author.Needs.{needs}

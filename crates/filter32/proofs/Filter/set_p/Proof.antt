@@ -1,4 +1,4 @@
--- `Filter::set_p` meets its contract. Assumes nothing. At f32: made from crates/filter by narrow.py.
+-- `Filter::set_p` meets its contract. Assumes nothing. At f32, made from crates/filter by ./narrow.py: edit there.
 use mathlib.Core.Path.{refl}
 use borrow.Author.Needs.{needs}
 use denote.Ref.{now}

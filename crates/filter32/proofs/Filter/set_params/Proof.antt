@@ -1,4 +1,4 @@
--- `Filter::set_params` meets its contract. Assumes nothing. At f32: made from crates/filter by narrow.py.
+-- `Filter::set_params` meets its contract. Assumes nothing. At f32, made from crates/filter by ./narrow.py: edit there.
 use borrow.Author.Needs.{needs}
 use mathlib.Core.List.{List, []}
 use lib.Ieee.{binary32}

@@ -1,4 +1,4 @@
--- `Sheet::new` meets its contract. Assumes nothing. At f32: made from crates/filter by narrow.py.
+-- `Sheet::new` meets its contract. Assumes nothing. At f32, made from crates/filter by ./narrow.py: edit there.
 use Prim.Native.Nat.{ℕ, _*_, _≤_}
 use mathlib.Core.Path.{_≡_, refl, sym, ap, ap₂, _∙_}
 use mathlib.Core.List.{List, [], _++_}

@@ -1,4 +1,4 @@
--- `measurement::refuse` meets its contract. Assumes nothing. At f32: made from crates/filter by narrow.py.
+-- `measurement::refuse` meets its contract. Assumes nothing. At f32, made from crates/filter by ./narrow.py: edit there.
 use mathlib.Core.Path.{refl}
 use lib.Ieee.{ofBits}
 use Rattle.floats.specs.Numbers.{zeros}

@@ -1,4 +1,4 @@
--- `measurement::take_in` meets its contract: each test is right once the sizes are, and then the slices hold what is taken in. Assumes nothing. At f32: made from crates/filter by narrow.py.
+-- `measurement::take_in` meets its contract: each test is right once the sizes are, and then the slices hold what is taken in. Assumes nothing. At f32, made from crates/filter by ./narrow.py: edit there.
 use Prim.Native.Nat.{ℕ, _≤_, _*_}
 use mathlib.Core.Path.{_≡_, sym, ap, ap₂, _∙_}
 use mathlib.Core.Bool.{Bool, _&&_}

@@ -1,4 +1,4 @@
--- `new::empty_track` meets its contract. Assumes nothing. At f32: made from crates/filter by narrow.py.
+-- `new::empty_track` meets its contract. Assumes nothing. At f32, made from crates/filter by ./narrow.py: edit there.
 use borrow.Author.Needs.{needs}
 use lib.Ieee.{ofBits}
 use Rattle.floats.specs.Numbers.{zeros}

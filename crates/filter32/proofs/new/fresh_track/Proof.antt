@@ -1,4 +1,4 @@
--- `new::fresh_track` meets its contract. Assumes nothing. At f32: made from crates/filter by narrow.py.
+-- `new::fresh_track` meets its contract. Assumes nothing. At f32, made from crates/filter by ./narrow.py: edit there.
 use mathlib.Core.Path.{refl}
 use lib.Ieee.{ofBits}
 use Rattle.floats.specs.Numbers.{zeros}

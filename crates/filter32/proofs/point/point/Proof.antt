@@ -1,4 +1,4 @@
--- `point::point` meets its contract. Assumes nothing. At f32: made from crates/filter by narrow.py.
+-- `point::point` meets its contract. Assumes nothing. At f32, made from crates/filter by ./narrow.py: edit there.
 use mathlib.Core.Path.{_≡_, sym, _∙_}
 use borrow.Author.Needs.{needs}
 use borrow.Author.Tests.{eq-eqb, ne-eqb}

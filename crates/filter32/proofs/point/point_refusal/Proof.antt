@@ -1,4 +1,4 @@
--- `point::point_refusal` meets its contract. Assumes nothing. At f32: made from crates/filter by narrow.py.
+-- `point::point_refusal` meets its contract. Assumes nothing. At f32, made from crates/filter by ./narrow.py: edit there.
 use Prim.Native.Nat.{ℕ, _+_}
 use mathlib.Core.Path.{refl, sym, ap, ap₂, _∙_}
 use mathlib.Core.Bool.{Bool, _&&_}

@@ -1,4 +1,4 @@
--- `readings::read` meets its contract. Assumes nothing. At f32: made from crates/filter by narrow.py.
+-- `readings::read` meets its contract. Assumes nothing. At f32, made from crates/filter by ./narrow.py: edit there.
 use Prim.Native.Nat.{_≤_}
 use mathlib.Core.Path.{_≡_, refl, sym, ap, _∙_}
 use mathlib.Core.Bool.{true}

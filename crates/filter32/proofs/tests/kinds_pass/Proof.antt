@@ -1,4 +1,4 @@
--- `tests::kinds_pass` meets its contract: the kinds before i have passed, and the first that fails, the fourth or m decides. Assumes nothing. At f32: made from crates/filter by narrow.py.
+-- `tests::kinds_pass` meets its contract: the kinds before i have passed, and the first that fails, the fourth or m decides. Assumes nothing. At f32, made from crates/filter by ./narrow.py: edit there.
 use Prim.Native.Nat.{_≤_, _-_}
 use mathlib.Core.Path.{sym, _∙_}
 use native.Mathlib.Omega.{arith}

@@ -1,4 +1,4 @@
--- `tests::slice_refusal` meets its contract: each test is the one asked for. Assumes nothing. At f32: made from crates/filter by narrow.py.
+-- `tests::slice_refusal` meets its contract: each test is the one asked for. Assumes nothing. At f32, made from crates/filter by ./narrow.py: edit there.
 use mathlib.Core.Path.{refl, sym, _∙_}
 use borrow.Author.Needs.{needs}
 use lib.Ieee.{binary32}

@@ -1,4 +1,4 @@
--- `factor::cholesky_decompose_lower` meets its contract: at the head of each loop what is left of the work comes to the whole outcome (`FactorSteps.antt`), so far with no refusal. At f32: made from crates/matrix by narrow.py.
+-- `factor::cholesky_decompose_lower` meets its contract: at the head of each loop what is left of the work comes to the whole outcome (`FactorSteps.antt`), so far with no refusal. At f32, made from crates/matrix by ./narrow.py: edit there.
 -- Assumes nothing.
 use Prim.Native.Nat.{_-_, _≤_}
 use mathlib.Core.Path.{_≡_, sym, _∙_, ap}

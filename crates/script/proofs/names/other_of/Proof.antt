@@ -1,4 +1,4 @@
--- `script::names::other_of` meets its contract: the last seven names in turn. Assumes nothing.
+-- `script::names::other_of` meets its contract: the last eight names in turn. Assumes nothing.
 use mathlib.Core.Path.{refl}
 use borrow.Author.Needs.{needs}
 use denote.Ref.{now}
@@ -29,9 +29,12 @@ past6 c = missed (past5 (c .before .before .before)) (c .before .same-bytes6 .en
 past7 : (c : tie.Else7) → Tried others (drop 7 others) (now (c .before .before .before .before .before .before .before .before .before .before .before .before .before .before .before .before .before .before .before .before .before .before .args .token))
 past7 c = missed (past6 (c .before .before .before)) (c .before .same-bytes7 .ensures) (c .if7 .left)
 
-returns-8 : tie.Need-returns-8
+past8 : (c : tie.Else8) → Tried others (drop 8 others) (now (c .before .before .before .before .before .before .before .before .before .before .before .before .before .before .before .before .before .before .before .before .before .before .before .before .before .args .token))
+past8 c = missed (past7 (c .before .before .before)) (c .before .same-bytes8 .ensures) (c .if8 .left)
+
+returns-9 : tie.Need-returns-9
 unfolding named
-returns-8 c = last (past7 c) refl
+returns-9 c = last (past8 c) refl
 
 pub other-of-spec : {M : Type 1} → statement M
 other-of-spec =
@@ -58,4 +61,7 @@ other-of-spec =
     (λ c. search needs)
     (λ c κs. search needs)
     (λ c. hit (past6 (c .before .before .before)) (c .before .same-bytes7 .ensures) (c .if7 .taken))
-    returns-8)
+    (λ c. search needs)
+    (λ c κs. search needs)
+    (λ c. hit (past7 (c .before .before .before)) (c .before .same-bytes8 .ensures) (c .if8 .taken))
+    returns-9)

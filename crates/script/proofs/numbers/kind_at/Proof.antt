@@ -2,6 +2,7 @@
 use borrow.Author.Needs.{needs}
 use mathlib.Core.Path.{sym, ap, _∙_}
 use mathlib.Core.List.{[], _∷_}
+use lib.Ieee.{binary64}
 use borrow.Author.Tests.{not-true, not-false}
 use Rattle.script.specs.Numbers.{turnOf, kindIn}
 use Rattle.script.specs.declared.text.Token.{Token}
@@ -13,18 +14,18 @@ returns : tie.Need-returns
 returns c =
     let s = c .before .before .before .before .before .before .args .s .now in
     let t = c .before .before .before .before .token-at .result in
-    plain-told s t (tested s t (112 ∷ []) (c .before .before .before .part .ensures) (c .before .same-bytes .ensures) (c .if1 .taken))
-    ∙ ap (λ (u : Token). kindIn s u) (c .before .before .before .before .token-at .ensures)
+    plain-told binary64 s t (tested s t (112 ∷ []) (c .before .before .before .part .ensures) (c .before .same-bytes .ensures) (c .if1 .taken))
+    ∙ ap (λ (u : Token). kindIn binary64 s u) (c .before .before .before .before .token-at .ensures)
 
 returns-2 : tie.Need-returns-2
 returns-2 c =
     let a = c .before .before .before .before in
     let s = a .before .before .before .before .before .args .s .now in
     let t = a .before .before .before .token-at .result in
-    no-letter s t
+    no-letter binary64 s t
     (tested s t (112 ∷ []) (a .before .before .part .ensures) (a .same-bytes .ensures) (c .before .before .before .if1 .left))
     (tested s t (116 ∷ []) (a .before .before .part .ensures) (c .before .same-bytes2 .ensures) (not-true _ (c .if2 .taken)))
-    ∙ ap (λ (u : Token). kindIn s u) (a .before .before .before .token-at .ensures)
+    ∙ ap (λ (u : Token). kindIn binary64 s u) (a .before .before .before .token-at .ensures)
 
 returns-3 : tie.Need-returns-3
 returns-3 c =
@@ -33,11 +34,11 @@ returns-3 c =
     let s = a .before .before .before .before .before .args .s .now in
     let t = a .before .before .before .token-at .result in
     ap turnOf (sym (c .enum-told .given .1))
-    ∙ turn-told s t
+    ∙ turn-told binary64 s t
     (tested s t (112 ∷ []) (a .before .before .part .ensures) (a .same-bytes .ensures) (b .before .before .before .if1 .left))
     (tested s t (116 ∷ []) (a .before .before .part .ensures) (b .before .same-bytes2 .ensures) (not-false _ (b .if2 .left)))
     (c .before .before .number-at .ensures)
-    ∙ ap (λ (u : Token). kindIn s u) (a .before .before .before .token-at .ensures)
+    ∙ ap (λ (u : Token). kindIn binary64 s u) (a .before .before .before .token-at .ensures)
 
 returns-4 : tie.Need-returns-4
 returns-4 c =
@@ -46,11 +47,11 @@ returns-4 c =
     let s = a .before .before .before .before .before .args .s .now in
     let t = a .before .before .before .token-at .result in
     ap turnOf (sym (c .before .value .given .1))
-    ∙ turn-told s t
+    ∙ turn-told binary64 s t
     (tested s t (112 ∷ []) (a .before .before .part .ensures) (a .same-bytes .ensures) (b .before .before .before .if1 .left))
     (tested s t (116 ∷ []) (a .before .before .part .ensures) (b .before .same-bytes2 .ensures) (not-false _ (b .if2 .left)))
     (c .before .before .before .number-at .ensures)
-    ∙ ap (λ (u : Token). kindIn s u) (a .before .before .before .token-at .ensures)
+    ∙ ap (λ (u : Token). kindIn binary64 s u) (a .before .before .before .token-at .ensures)
 
 pub kind-at-spec : {M : Type 1} → statement M
 kind-at-spec =

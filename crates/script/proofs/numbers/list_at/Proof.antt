@@ -2,12 +2,13 @@
 use borrow.Author.Needs.{needs}
 use Prim.Native.Nat.{_-_}
 use native.Mathlib.Omega.{arith}
+use lib.Ieee.{binary64}
 use Rattle.script.proofs.Lists.{no-size, too-long, Gone, gone-none, gone-more, gone-not, gone-end}
 use Rattle.script.proofs.numbers.list_at.Statement.{statement}
 use Rattle.script.proofs.numbers.list_at.Tie as tie
 
 abbrev Inv-loop : tie.InvT-loop
-Inv-loop s at out₀ value next len i₀ place₀ out i place = Gone s at out₀ len i place out
+Inv-loop s at out₀ value next len i₀ place₀ out i place = Gone binary64 s at out₀ len i place out
 
 abbrev μ-loop : tie.MeasureT-loop
 μ-loop s at out₀ value next len i₀ place₀ out i place = len - i
@@ -15,12 +16,12 @@ abbrev μ-loop : tie.MeasureT-loop
 returns : tie.Need-returns Inv-loop μ-loop
 returns c =
     let a = c .before .before .before .before .args in
-    no-size (a .s .now) (a .at) (a .out .now) (c .before .before .size-at .ensures) (c .enum-told .given .1)
+    no-size binary64 (a .s .now) (a .at) (a .out .now) (c .before .before .size-at .ensures) (c .enum-told .given .1)
 
 returns-2 : tie.Need-returns-2 Inv-loop μ-loop
 returns-2 c =
     let a = c .before .before .before .before .before .before .args in
-    too-long (a .s .now) (a .at) (a .out .now) (c .before .before .before .before .size-at .ensures)
+    too-long binary64 (a .s .now) (a .at) (a .out .now) (c .before .before .before .before .size-at .ensures)
     (c .before .before .value .given .1)
     (c .if1 .taken)
 

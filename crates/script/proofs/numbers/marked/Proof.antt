@@ -2,12 +2,13 @@
 use Prim.Native.Nat.{_-_}
 use mathlib.Core.Path.{refl}
 use native.Mathlib.Omega.{arith}
+use lib.Ieee.{binary64}
 use Rattle.script.proofs.Marks.{Marked, marked-none, marked-more}
 use Rattle.script.proofs.numbers.marked.Statement.{statement}
 use Rattle.script.proofs.numbers.marked.Tie as tie
 
 abbrev Inv-loop : tie.InvT-loop
-Inv-loop buffer₀ i₀ buffer i = Marked buffer i
+Inv-loop buffer₀ i₀ buffer i = Marked binary64 buffer i
 
 abbrev μ-loop : tie.MeasureT-loop
 μ-loop buffer₀ i₀ buffer i = 512 - i

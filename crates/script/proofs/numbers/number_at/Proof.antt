@@ -1,8 +1,8 @@
--- `script::numbers::number_at` meets its contract: a token of 16 bytes, with what its word is. Assumes nothing.
+-- `script::numbers::number_at` meets its contract: a token of a word's length, with what its word is. Assumes nothing.
 use borrow.Author.Needs.{needs}
 use mathlib.Core.Path.{sym, ap, _∙_}
 use native.Mathlib.Omega.{arith}
-use lib.Ieee.{Float}
+use lib.Ieee.{Float, binary64}
 use Rattle.words.specs.declared.Word.{Word}
 use Rattle.script.specs.Numbers.{numberIn, numberFrom}
 use Rattle.script.specs.declared.text.Token.{Token}
@@ -14,31 +14,31 @@ use Rattle.script.proofs.numbers.number_at.Tie as tie
 returns : tie.Need-returns
 returns c =
     let s = c .before .before .before .args .s .now in
-    other-width s (c .before .token-at .result) (λ e. omega arith)
-    ∙ ap (λ (t : Token). numberIn s t) (c .before .token-at .ensures)
+    other-width binary64 s (c .before .token-at .result) (λ e. omega arith)
+    ∙ ap (λ (t : Token). numberIn binary64 s t) (c .before .token-at .ensures)
 
 returns-2 : tie.Need-returns-2
 returns-2 c =
     let s = c .before .before .before .before .args .s .now in
-    other-width s (c .before .before .token-at .result) (λ e. c .if2 .taken (omega arith))
-    ∙ ap (λ (t : Token). numberIn s t) (c .before .before .token-at .ensures)
+    other-width binary64 s (c .before .before .token-at .result) (λ e. c .if2 .taken (omega arith))
+    ∙ ap (λ (t : Token). numberIn binary64 s t) (c .before .before .token-at .ensures)
 
 returns-3 : tie.Need-returns-3
 returns-3 c =
     let s = c .before .before .before .before .before .before .before .args .s .now in
     let t = c .before .before .before .before .before .token-at .result in
-    ap (λ (w : Word). numberFrom (t .end) w) (sym (c .enum-told .given .1))
-    ∙ of-word s t (omega arith) (c .before .before .word-at .ensures)
-    ∙ ap (λ (t : Token). numberIn s t) (c .before .before .before .before .before .token-at .ensures)
+    ap (λ (w : Word). numberFrom binary64 (t .end) w) (sym (c .enum-told .given .1))
+    ∙ of-word binary64 s t (omega arith) (c .before .before .word-at .ensures)
+    ∙ ap (λ (t : Token). numberIn binary64 s t) (c .before .before .before .before .before .token-at .ensures)
 
 returns-4 : tie.Need-returns-4
 returns-4 c =
     let s = c .before .before .before .before .before .before .before .before .before .args .s .now in
     let t = c .before .before .before .before .before .before .before .token-at .result in
     ap (λ (x : Float). Number x (t .end)) (c .float-of .ensures)
-    ∙ ap (λ (w : Word). numberFrom (t .end) w) (sym (c .before .before .b .given .1))
-    ∙ of-word s t (omega arith) (c .before .before .before .before .word-at .ensures)
-    ∙ ap (λ (t : Token). numberIn s t) (c .before .before .before .before .before .before .before .token-at .ensures)
+    ∙ ap (λ (w : Word). numberFrom binary64 (t .end) w) (sym (c .before .before .b .given .1))
+    ∙ of-word binary64 s t (omega arith) (c .before .before .before .before .word-at .ensures)
+    ∙ ap (λ (t : Token). numberIn binary64 s t) (c .before .before .before .before .before .before .before .token-at .ensures)
 
 pub number-at-spec : {M : Type 1} → statement M
 number-at-spec =

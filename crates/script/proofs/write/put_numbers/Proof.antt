@@ -1,12 +1,13 @@
 -- `script::write::put_numbers` meets its contract: each turn puts one number. Assumes nothing.
 use Prim.Native.Nat.{_-_}
 use native.Mathlib.Omega.{arith}
+use lib.Ieee.{binary64}
 use Rattle.script.proofs.Pages.{Printed, printed-none, printed-more, printed-over}
 use Rattle.script.proofs.write.put_numbers.Statement.{statement}
 use Rattle.script.proofs.write.put_numbers.Tie as tie
 
 abbrev Inv-loop : tie.InvT-loop
-Inv-loop out₀ at s k next₀ i₀ out next i = Printed s k out₀ at i out next
+Inv-loop out₀ at s k next₀ i₀ out next i = Printed binary64 s k out₀ at i out next
 
 abbrev μ-loop : tie.MeasureT-loop
 μ-loop out₀ at s k next₀ i₀ out next i = k - i

@@ -1,4 +1,4 @@
--- `predict::reconstruct_prediction` meets its contract: past each test, what is left of the plan comes to the whole outcome. Assumes nothing. At f32: made from crates/sigma by narrow.py.
+-- `predict::reconstruct_prediction` meets its contract: past each test, what is left of the plan comes to the whole outcome. Assumes nothing. At f32, made from crates/sigma by ./narrow.py: edit there.
 use Prim.Native.Nat.{_*_}
 use mathlib.Core.Path.{sym, ap}
 use borrow.Author.Needs.{needs}

@@ -1,9 +1,9 @@
--- `replay::answers::times` meets its contract: the product of two numbers up to 32 is at most 32 * 32. Assumes nothing.
+-- `script::counts::times` meets its contract: the product of two numbers up to 32 is at most 32 * 32. Assumes nothing.
 use borrow.Author.Tests.{le-leb, lt-leb}
 use native.Mathlib.Nat.{mul-le-mul-right}
 use native.Mathlib.Omega.{arith}
-use Rattle.replay.proofs.answers.times.Statement.{statement}
-use Rattle.replay.proofs.answers.times.Tie as tie
+use Rattle.script.proofs.counts.times.Statement.{statement}
+use Rattle.script.proofs.counts.times.Tie as tie
 
 mul-result : tie.Need-mul-result
 mul-result c = omega (arith, mul-le-mul-right (c .before .before .args .b) (c .before .if1 .taken))
