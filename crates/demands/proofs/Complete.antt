@@ -196,6 +196,14 @@ use Rattle.script.proofs.write.put.Kinds as put-of
 use Rattle.script.proofs.write.put.Reads as put
 use Rattle.script.proofs.write.gather.Kinds as gather-of
 use Rattle.script.proofs.write.gather.Reads as gather
+use Rattle.script.proofs.counts.times.Kinds as times-of
+use Rattle.script.proofs.counts.times.Reads as times
+use Rattle.script.proofs.counts.point_numbers.Kinds as shown-points-of
+use Rattle.script.proofs.counts.point_numbers.Reads as shown-points
+use Rattle.script.proofs.write.put_bit.Kinds as put-bit-of
+use Rattle.script.proofs.write.put_bit.Reads as put-bit
+use Rattle.script.proofs.write.put_stage.Kinds as put-stage-of
+use Rattle.script.proofs.write.put_stage.Reads as put-stage
 use Rattle.script.proofs.write.put_number.Kinds as put-number-of
 use Rattle.script.proofs.write.put_number.Reads as put-number
 use Rattle.script.proofs.write.put_numbers.Kinds as put-numbers-of
@@ -499,6 +507,18 @@ put-one κs a z z′ w w′ p q = (by (p .0) (q .0), ap (λ (l : List ℕ). (l, 
 
 pub gather-one : OneAnswer gather-of.ps gather-of.r gather.Learnt
 gather-one κs a z z′ w w′ p q = (by (p .0) (q .0), ap (λ (l : List ℕ). (l, (tt, (tt, tt)))) (by (p .1) (q .1)))
+
+pub times-one : OneAnswer times-of.ps times-of.r times.Learnt
+times-one κs a z z′ w w′ p q = (by p q, refl)
+
+pub shown-points-one : OneAnswer shown-points-of.ps shown-points-of.r shown-points.Learnt
+shown-points-one κs a z z′ w w′ p q = (by p q, refl)
+
+pub put-bit-one : OneAnswer put-bit-of.ps put-bit-of.r put-bit.Learnt
+put-bit-one κs a z z′ w w′ p q = (by (p .0) (q .0), ap (λ (l : List ℕ). (l, (tt, (tt, tt)))) (by (p .1) (q .1)))
+
+pub put-stage-one : OneAnswer put-stage-of.ps put-stage-of.r put-stage.Learnt
+put-stage-one κs a z z′ w w′ p q = (by (p .0) (q .0), ap (λ (l : List ℕ). (l, (tt, (tt, tt)))) (by (p .1) (q .1)))
 
 pub put-number-one : OneAnswer put-number-of.ps put-number-of.r put-number.Learnt
 put-number-one κs a z z′ w w′ p q = (by (p .0) (q .0), ap (λ (l : List ℕ). (l, (tt, (tt, tt)))) (by (p .1) (q .1)))

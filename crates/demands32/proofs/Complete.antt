@@ -1,9 +1,12 @@
 -- Complete contracts at f32: from two answers that one contract allows, their equality. The contract is the function's own (crates/demands/proofs/Complete.antt says how). Assumes nothing.
-use mathlib.Core.Path.{refl}
+use Prim.Native.Nat.{ℕ}
+use mathlib.Core.Path.{refl, ap}
+use mathlib.Core.List.{List}
+use lib.Ieee.{Float}
 use Rattle.root.proofs.Answers.{one-case}
 use Rattle.root32.specs.Wide.{wideRoot}
 use Rattle.demands.proofs.Complete.{OneAnswer, OnePart, by, lent}
-use Rattle.demands32.proofs.OneToOne.{one-answer, one-drawn, one-factor, one-moments, one-new-sheet, one-new-track, one-params-read, one-root, one-sheet, one-track, one-weighting, one-wrapped}
+use Rattle.demands32.proofs.OneToOne.{one-answer, one-drawn, one-factor, one-moments, one-new-sheet, one-kind-read, one-new-track, one-number-read, one-params-read, one-root, one-sheet, one-track, one-weighting, one-wrapped}
 use Rattle.floats32.proofs.is_finite.Kinds as is-finite-of
 use Rattle.floats32.proofs.is_finite.Reads as is-finite
 use Rattle.floats32.proofs.is_above_zero.Kinds as is-above-zero-of
@@ -110,6 +113,22 @@ use Rattle.filter32.proofs.point.point_refusal.Kinds as point-refusal-of
 use Rattle.filter32.proofs.point.point_refusal.Reads as point-refusal
 use Rattle.filter32.proofs.point.point.Kinds as point-of
 use Rattle.filter32.proofs.point.point.Reads as point
+use Rattle.words32.proofs.float_of.Kinds as float-of-of
+use Rattle.words32.proofs.float_of.Reads as float-of
+use Rattle.words32.proofs.bits_of.Kinds as bits-of-of
+use Rattle.words32.proofs.bits_of.Reads as bits-of
+use Rattle.words32.proofs.word_at.Kinds as word-at-of
+use Rattle.words32.proofs.word_at.Reads as word-at
+use Rattle.script32.proofs.numbers.number_at.Kinds as number-at-of
+use Rattle.script32.proofs.numbers.number_at.Reads as number-at
+use Rattle.script32.proofs.numbers.kind_at.Kinds as kind-at-of
+use Rattle.script32.proofs.numbers.kind_at.Reads as kind-at
+use Rattle.script32.proofs.numbers.list_at.Kinds as list-at-of
+use Rattle.script32.proofs.numbers.list_at.Reads as list-at
+use Rattle.script32.proofs.write.put_number.Kinds as put-number-of
+use Rattle.script32.proofs.write.put_number.Reads as put-number
+use Rattle.script32.proofs.write.put_numbers.Kinds as put-numbers-of
+use Rattle.script32.proofs.write.put_numbers.Reads as put-numbers
 
 -- ---- THE TABLE: a line for each public function with a float in it; what has none is called by both widths
 
@@ -271,3 +290,27 @@ point-refusal-one κs a z z′ w w′ p q = (by p q, refl)
 
 pub point-one : OnePart point-of.ps point-of.r point.Learnt (λ κs z. z)
 point-one κs a z z′ w w′ p q = (by (p .1) (q .1), by (p .0) (q .0), refl)
+
+pub float-of-one : OneAnswer float-of-of.ps float-of-of.r float-of.Learnt
+float-of-one κs a z z′ w w′ p q = (by p q, refl)
+
+pub bits-of-one : OneAnswer bits-of-of.ps bits-of-of.r bits-of.Learnt
+bits-of-one κs a z z′ w w′ p q = (by p q, refl)
+
+pub word-at-one : OneAnswer word-at-of.ps word-at-of.r word-at.Learnt
+word-at-one κs a z z′ w w′ p q = (by p q, refl)
+
+pub number-at-one : OneAnswer number-at-of.ps number-at-of.r number-at.Learnt
+number-at-one κs a z z′ w w′ p q = (one-number-read z z′ (by p q), refl)
+
+pub kind-at-one : OneAnswer kind-at-of.ps kind-at-of.r kind-at.Learnt
+kind-at-one κs a z z′ w w′ p q = (one-kind-read z z′ (by p q), refl)
+
+pub list-at-one : OneAnswer list-at-of.ps list-at-of.r list-at.Learnt
+list-at-one κs a z z′ w w′ p q = (by (p .0) (q .0), ap (λ (l : List Float). (tt, (tt, (l, tt)))) (by (p .1) (q .1)))
+
+pub put-number-one : OneAnswer put-number-of.ps put-number-of.r put-number.Learnt
+put-number-one κs a z z′ w w′ p q = (by (p .0) (q .0), ap (λ (l : List ℕ). (l, (tt, (tt, tt)))) (by (p .1) (q .1)))
+
+pub put-numbers-one : OneAnswer put-numbers-of.ps put-numbers-of.r put-numbers.Learnt
+put-numbers-one κs a z z′ w w′ p q = (by (p .0) (q .0), ap (λ (l : List ℕ). (l, (tt, (tt, (tt, tt))))) (by (p .1) (q .1)))

@@ -35,7 +35,16 @@ use Rattle.filter32.specs.declared.Answer.{Answer as Answer32}
 use Rattle.filter32.specs.declared.ParamsRead.{ParamsRead as ParamsRead32}
 use Rattle.filter32.specs.declared.new.NewSheet.{NewSheet as NewSheet32}
 use Rattle.filter32.specs.declared.new.NewTrack.{NewTrack as NewTrack32}
+use Rattle.script.specs.declared.numbers.NumberRead.{NumberRead}
+use Rattle.script.specs.declared.numbers.NumberRead.the-variants.{Number, NoNumber}
+use Rattle.script.specs.declared.numbers.KindRead.{KindRead}
+use Rattle.script.specs.declared.numbers.KindRead.the-variants.{Told, NoKind}
+use Rattle.script32.specs.declared.numbers.NumberRead.{NumberRead as NumberRead32}
+use Rattle.script32.specs.declared.numbers.NumberRead.the-variants.{Number as Number32, NoNumber as NoNumber32}
+use Rattle.script32.specs.declared.numbers.KindRead.{KindRead as KindRead32}
+use Rattle.script32.specs.declared.numbers.KindRead.the-variants.{Told as Told32, NoKind as NoKind32}
 use Rattle.root32.specs.Wide.{wideRoot}
+use Rattle.script32.specs.Wide.{wideNumberRead, wideKindRead}
 use Rattle.angles32.specs.Wide.{wideWrapped, wideResidual, wideKind, wideKinds}
 use Rattle.matrix32.specs.Wide.{wideFactor}
 use Rattle.sigma32.specs.Wide.{wideDrawn, wideMoments, wideWeighting}
@@ -103,6 +112,31 @@ one-new-sheet a b e = ap₂ (λ (h : Sheet32) (v : Verdict). record { refusal = 
 
 pub one-answer : (a b : Answer32) → wideAnswer a ≡ wideAnswer b → a ≡ b
 one-answer a b e = ap₂ (λ (s : Filter32) (v : Verdict). record { filter = s; refusal = v }) (one-filter (a .filter) (b .filter) (ap (λ (v : Answer). v .filter) e)) (ap (λ (v : Answer). v .refusal) e)
+
+back-kind : (k : Kind32) → narrowKind (wideKind k) ≡ k
+back-kind k = ap (λ (r : Residual32). record { residual = r }) (back-residual (k .residual))
+
+abbrev narrowNumberRead : NumberRead → NumberRead32
+narrowNumberRead (Number x next) = Number32 x next
+narrowNumberRead NoNumber = NoNumber32
+
+back-number-read : (a : NumberRead32) → narrowNumberRead (wideNumberRead a) ≡ a
+back-number-read (Number32 x next) = refl
+back-number-read NoNumber32 = refl
+
+pub one-number-read : (a b : NumberRead32) → wideNumberRead a ≡ wideNumberRead b → a ≡ b
+one-number-read a b e = sym (back-number-read a) ∙ ap narrowNumberRead e ∙ back-number-read b
+
+abbrev narrowKindRead : KindRead → KindRead32
+narrowKindRead (Told k next) = Told32 (narrowKind k) next
+narrowKindRead NoKind = NoKind32
+
+back-kind-read : (a : KindRead32) → narrowKindRead (wideKindRead a) ≡ a
+back-kind-read (Told32 k next) = ap (λ (v : Kind32). Told32 v next) (back-kind k)
+back-kind-read NoKind32 = refl
+
+pub one-kind-read : (a b : KindRead32) → wideKindRead a ≡ wideKindRead b → a ≡ b
+one-kind-read a b e = sym (back-kind-read a) ∙ ap narrowKindRead e ∙ back-kind-read b
 
 -- ---- the other way
 
