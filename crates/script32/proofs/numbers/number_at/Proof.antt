@@ -21,7 +21,7 @@ returns c =
 returns-2 : tie.Need-returns-2
 returns-2 c =
     let s = c .before .before .before .before .args .s .now in
-    other-width binary32 s (c .before .before .token-at .result) (λ e. c .if2 .taken (omega arith))
+    other-width binary32 s (c .before .before .token-at .result) (λ e. omega arith)
     ∙ ap (λ (t : Token). numberIn binary32 s t) (c .before .before .token-at .ensures)
 
 returns-3 : tie.Need-returns-3
