@@ -1,7 +1,7 @@
 #!/usr/bin/env python3
 """damaged.py COMMAND SCRIPT [ROUNDS] [SEED]: damages a script and holds the command that replays it to one answer in form for each call line.
 
-Each round takes a run of the script's lines and flips bytes, cuts, joins, doubles or lengthens lines, puts a side before them, or drops the last newline. The command has to end
+Each round takes a run of the script's lines and flips bytes, cuts, joins, doubles or lengthens lines, puts a side or the f32 filter before them, or drops the last newline. The command has to end
 with status 0 and write one line for each line that holds a token, comment stripped, or is longer than 16,384 bytes: `bad`, or what begins with a number and its place (docs/SCRIPT.md).
 Prints how many rounds and lines that were.
 """
@@ -63,9 +63,9 @@ def lengthen(lines, rng):
 
 
 def address(lines, rng):
-    """A side before a line, whatever it is: a call of another filter, a side already, a call that no side takes, a comment."""
+    """A side or the f32 filter before a line, whatever it is: a call of another filter, one of a side already, a call that it doesn't take, a comment."""
     i = rng.randrange(len(lines))
-    lines[i] = rng.choice([b'@1 ', b'@2 ', b'@1', b'@', b'@3 ', b'@1 @2 ']) + lines[i]
+    lines[i] = rng.choice([b'@1 ', b'@2 ', b'@1', b'@', b'@3 ', b'@1 @2 ', b'@w ', b'@w @1 ']) + lines[i]
 
 
 DAMAGES = [flip, flip, flip, replace, replace, cut, cut, join, double, lengthen, address]

@@ -4,17 +4,13 @@ use mathlib.Core.Bool.{true, false, cond}
 use mathlib.Core.List.{List, []}
 use lib.ListN.{take, drop}
 use lib.Dec.{eqb}
-use lib.Ieee.{Float, Format, binary32, binary64}
+use lib.Ieee.{Float, Format}
 use Rattle.floats.specs.declared.Verdict.{Verdict}
 use Rattle.floats.specs.Refusal.{Outcome, accepted, refusal, or}
+use Rattle.floats.specs.Numbers.{bytes}
 use Rattle.sigma.specs.Draw.{pointNumbers}
 use Rattle.filter.specs.Asked.{Asks, guarded}
 use Rattle.filter.specs.Calls.{sized, lend, line}
-
--- the bytes of a number
-abbrev pub bytes : Format → ℕ
-bytes binary32 = 4
-bytes binary64 = 8
 
 module _ (f : Format) (l : List Float) (n k : ℕ) where
   -- it needs the whole n(2n+1) numbers and doesn't judge them

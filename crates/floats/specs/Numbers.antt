@@ -1,10 +1,10 @@
--- Numbers and lists of numbers: +0, finite, above 0. Definitions only.
+-- Numbers and lists of numbers: +0, finite, above 0, how many bytes. Definitions only.
 use Prim.Native.Nat.{ℕ}
 use mathlib.Core.Bool.{Bool, true, false, _&&_}
 use mathlib.Core.List.{List, [], _∷_}
 use lib.IntN.{pos}
 use lib.ListN.{replicate}
-use lib.Ieee.{Float, fin, lt}
+use lib.Ieee.{Float, fin, Format, binary32, binary64, lt}
 use lib.Ieee.Scale.{finite}
 
 -- +0, in any format
@@ -23,3 +23,8 @@ allFinite (x ∷ xs) = finite x && allFinite xs
 -- finite and above 0
 unfoldable pub aboveZero : Float → Bool
 aboveZero x = finite x && lt plusZero x
+
+-- the bytes of a number
+abbrev pub bytes : Format → ℕ
+bytes binary32 = 4
+bytes binary64 = 8

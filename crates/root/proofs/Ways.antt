@@ -12,6 +12,7 @@ use lib.Pow.{pow-pos, pow-mono}
 use lib.Ieee.{Float, Format, binary32, binary64, prec, hid, ones, top, fits, ofBits, toBits, ne, nanBits}
 use lib.Ieee.Bits.{ofBits-toBits, nanBits-above}
 use Rattle.floats.specs.Refusal.{badLone, refused, accepted}
+use Rattle.floats.specs.Numbers.{bytes}
 use Rattle.root.specs.Definition.{nearRoot, rootUnits, rootOf, rooted}
 use Rattle.root.specs.Answer.{rootOutcome}
 use Rattle.root.proofs.Scaled.{lift, evened, scaled-bits, normal, moved-same, shifts, prec-pos}
@@ -19,8 +20,7 @@ use Rattle.root.proofs.Values.{zero-bits, refused-bits, rooted-bits, lo
 
 -- the bits of a value of the format
 abbrev pub width : Format → ℕ
-width binary32 = 32
-width binary64 = 64
+width f = 8 * bytes f
 
 digits-in : (f : Format) → prec f ≤ width f
 digits-in binary32 = lit≤ tt

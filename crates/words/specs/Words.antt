@@ -3,8 +3,9 @@ use Prim.Native.Nat.{ℕ, zero, suc, _+_, _-_, _*_}
 use mathlib.Core.Bool.{Bool, _&&_, cond}
 use mathlib.Core.List.{List}
 use lib.Dec.{leb, ltb}
-use lib.Ieee.{Format, binary32, binary64}
+use lib.Ieee.{Format}
 use lib.ListN.{getD}
+use Rattle.floats.specs.Numbers.{bytes}
 use Rattle.words.specs.declared.Word.{Word}
 use Rattle.words.specs.declared.Word.the-variants.{Bits, Bad}
 
@@ -21,10 +22,9 @@ unfolding digitOf
 digitsFrom zero s i v = Bits v
 digitsFrom (suc k) s i v = cond (ltb (digitOf (getD s i 0)) 16) (digitsFrom k s (i + 1) (v * 16 + digitOf (getD s i 0))) Bad
 
--- how many digits a word has: four bits each
+-- how many digits a word has: two to a byte
 abbrev pub width : Format → ℕ
-width binary32 = 8
-width binary64 = 16
+width f = 2 * bytes f
 
 -- the word that starts at place i
 abbrev pub wordOf : Format → List ℕ → ℕ → Word
