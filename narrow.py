@@ -12,6 +12,8 @@ import sys
 HERE = os.path.dirname(os.path.abspath(__file__))
 CRATES = ['floats', 'root', 'angles', 'matrix', 'sigma', 'correction', 'filter', 'words', 'script', 'replay']
 
+MADE = 'At f32, made from'
+
 # what has no float in it, as module::item; a module by itself is lib::module
 SHARED = {
     'floats': ['lib::Slice', 'lib::Verdict', 'lib::placeless', 'lib::earlier', 'lib::slice_number'],
@@ -31,14 +33,14 @@ LEFT = {
     'filter': ['closes::close_correction_flat', 'tests::is_plain', 'tests::all_plain'],
     'replay': ['lib::main', 'lib::take_piece', 'lib::held', 'calls::new_pair', 'calls::kinds_of', 'calls::on_side', 'calls::narrow', 'calls::code', 'calls::answer'],
 }
-# proofs that are written by hand, since what they go by differs: a root's bits fill its word, a list of kinds is read wide
+# proofs that are written by hand: at f64 a count of zeros is cast, at f32 it isn't; four kinds are read wide at once
 OWN = {'root': ['positive_root'], 'correction': ['widened'], 'filter': ['tests::halves']}
 # the structs and enums with floats, and where their wide.. stands
 TYPES = {
     'Root': 'root', 'Wrapped': 'angles', 'Residual': 'angles', 'Kind': 'angles', 'Factor': 'matrix', 'Params': 'sigma', 'Drawn': 'sigma', 'Moments': 'sigma', 'Weighting': 'sigma', 'Intake': 'filter',
     'Weighted': 'filter', 'Sheet': 'filter', 'Track': 'filter', 'Filter': 'filter', 'Answer': 'filter', 'ParamsRead': 'filter', 'NewSheet': 'filter', 'NewTrack': 'filter', 'NumberRead': 'script', 'KindRead': 'script',
 }
-# words of made proofs that differ: crate -> function -> [(f64's, f32's)]
+# words of made proofs that differ, since a list of kinds or an answer is read wide there, or a cast has a need of its own: crate -> function -> [(f64's, f32's)]
 PROOFS = {
     'sigma': {
         'mean::offset': [('d t w kinds i)', 'd t w (wideKinds kinds) i)'), ('.place .ensures .0)', '.place .ensures .0, kind-at)')],
@@ -75,7 +77,7 @@ PROOFS = {
         'write::put_number': [('    (λ c κs. search needs)\n    (λ c κs. search needs)\n', '    (λ c κs. search needs)\n    (λ c. search needs)\n    (λ c κs. search needs)\n')],
     },
 }
-# in the filter's proofs: an argument that is an f32 struct, handed to a definition or a law
+# in proofs: an argument that is an f32 struct, handed to a definition or a law, is handed on wide
 PLACE = r'(?:a|\w+(?: \w+| \((?:[^()]|\([^()]*\))*\))?(?: \.before)* \.args)'
 ARGS = {
     'angles': [(rf'\(({PLACE} \.k)\)', r'(wideKind (\1))')],
@@ -88,13 +90,15 @@ ARGS = {
 }
 # comments that speak of what is left out: crate/file -> [(f64's, f32's)]
 SAID = {
-    'floats/lib.rt': [(', and what every answer says', '')],
+    'floats/lib.rt': [('The floor of the house: tests of numbers that every other crate stands on, and what every answer says.', 'Tests of numbers, and the search for a bad one.')],
     'correction/lib.rt': [
         (' by weighted averages through the kinds or, in `flat`, by flat ones without kinds; and the steps that both share.', ' by weighted averages through the kinds.'),
         ("The steps that both share (the Rust's `compute_kalman_gain` and `apply_correction`), from z mean", "The steps (the Rust's `compute_kalman_gain` and `apply_correction`) from z mean"),
     ],
     'filter/closes.rt': [('and the two ways to close a correction:', 'and close correction:')],
     'filter/tests.rt': [('// ---- 10 and 6\n', '// ---- 6\n')],
+    'filter/measurement.rt': [("takes its place among them, in the order of the refusals: whether it fits (3), whether the kinds that have to be plain are (10), whether its kinds pass (6).", "takes its place among them, in the order of the refusals: whether it fits (3), whether its kinds pass (6); `plain` is the test of 10, which no close at f32 asks.")],
+    'script/numbers.rt': [('// Sizes, numbers, lists and kinds, each', '// Numbers, lists and kinds, each')],
     'filter/new.rt': [('Each part is made by itself, and several tracks may be put on one sheet.', 'Each part is made by itself.')],
 }
 # where the words that a made proof takes in stand
@@ -272,7 +276,7 @@ def proof(crate, where, text):
 def marked(text, crate):
     """The first line says that the file is made."""
     first, rest = text.split('\n', 1)
-    return f'{first} At f32, made from crates/{crate} by ./narrow.py: edit there.\n{rest}'
+    return f'{first} {MADE} crates/{crate} by ./narrow.py: edit there.\n{rest}'
 
 
 def made(crate):
@@ -297,7 +301,15 @@ def main(words):
     check = '--check' in words
     parted = 0
     for crate in [w for w in words if not w.startswith('-')] or CRATES:
-        for rel, text in made(crate):
+        files = dict(made(crate))
+        # a made file whose text at f64 is gone
+        for folder, _, names in os.walk(os.path.join(HERE, 'crates', crate + '32')):
+            for name in names:
+                there = os.path.join(folder, name)
+                if MADE in open(there, encoding='utf-8').readline() and os.path.relpath(there, os.path.join(HERE, 'crates', crate + '32')) not in files:
+                    parted += 1
+                    print('left over: ' + os.path.relpath(there, HERE))
+        for rel, text in files.items():
             there = os.path.join(HERE, 'crates', crate + '32', rel)
             old = open(there, encoding='utf-8').read() if os.path.exists(there) else None
             if old != text:

@@ -198,8 +198,6 @@ use Rattle.script.proofs.write.gather.Kinds as gather-of
 use Rattle.script.proofs.write.gather.Reads as gather
 use Rattle.script.proofs.counts.times.Kinds as times-of
 use Rattle.script.proofs.counts.times.Reads as times
-use Rattle.script.proofs.counts.point_numbers.Kinds as shown-points-of
-use Rattle.script.proofs.counts.point_numbers.Reads as shown-points
 use Rattle.script.proofs.write.put_bit.Kinds as put-bit-of
 use Rattle.script.proofs.write.put_bit.Reads as put-bit
 use Rattle.script.proofs.write.put_stage.Kinds as put-stage-of
@@ -510,9 +508,6 @@ gather-one κs a z z′ w w′ p q = (by (p .0) (q .0), ap (λ (l : List ℕ). (
 
 pub times-one : OneAnswer times-of.ps times-of.r times.Learnt
 times-one κs a z z′ w w′ p q = (by p q, refl)
-
-pub shown-points-one : OneAnswer shown-points-of.ps shown-points-of.r shown-points.Learnt
-shown-points-one κs a z z′ w w′ p q = (by p q, refl)
 
 pub put-bit-one : OneAnswer put-bit-of.ps put-bit-of.r put-bit.Learnt
 put-bit-one κs a z z′ w w′ p q = (by (p .0) (q .0), ap (λ (l : List ℕ). (l, (tt, (tt, tt)))) (by (p .1) (q .1)))

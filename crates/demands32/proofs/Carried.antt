@@ -17,7 +17,7 @@ use Rattle.demands32.specs.Runs.{stepNarrow, tells, told, ranTo, Alike, 
 use Rattle.demands32.proofs.OneToOne.{forth-filter}
 
 -- a step
-step-carried : (s : Filter) (c : Call) → wideFilter (stepNarrow s c .filter) ≡ step binary32 (wideFilter s) c .filter
+pub step-carried : (s : Filter) (c : Call) → wideFilter (stepNarrow s c .filter) ≡ step binary32 (wideFilter s) c .filter
 step-carried s c = forth-filter (step binary32 (wideFilter s) c .filter)
 
 -- what a run tells, and where it ends

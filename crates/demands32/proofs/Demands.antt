@@ -48,7 +48,7 @@ use Rattle.demands.proofs.Settings as settings
 use Rattle.demands32.specs.Narrow.{narrowFilter}
 use Rattle.demands32.specs.Runs.{stepNarrow, newNarrow, told, ranTo, Alike, StaysOpen, Struck, rest, Reached, Yielded}
 use Rattle.demands32.proofs.OneToOne.{back-filter, forth-filter, one-root, one-answer}
-use Rattle.demands32.proofs.Carried.{told-carried, ran-carried, alike-carried, reached-carried, yielded-carried, stays-carried, struck-carried}
+use Rattle.demands32.proofs.Carried.{step-carried, told-carried, ran-carried, alike-carried, reached-carried, yielded-carried, stays-carried, struck-carried}
 
 -- ---- From the code to here, and from here to `demands`
 
@@ -63,7 +63,7 @@ new-handed-back n x p q params a e =
 
 -- The filter after a step, read wide, is that of `filter`'s step, and a run tells what it tells there; so do the filters that the demands speak of belong to those there.
 pub step-read-wide : (s : Filter) (c : Call) → wideFilter (stepNarrow s c .filter) ≡ step binary32 (wideFilter s) c .filter
-step-read-wide s c = forth-filter (step binary32 (wideFilter s) c .filter)
+step-read-wide = step-carried
 
 pub told-read-wide : (s : Filter) (cs : List Call) → told s cs ≡ toldWide binary32 (wideFilter s) cs
 told-read-wide = told-carried

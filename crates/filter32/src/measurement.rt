@@ -29,7 +29,7 @@ fn refuse(refusal: Verdict) -> Intake
     }
 }
 
-// m and the slices are tested here; what else the close has tested takes its place among them, in the order of the refusals: whether it fits (3), whether the kinds that have to be plain are (10), whether its kinds pass (6). R, the observed points, z and then the first t half-turns are searched (53 to 56).
+// m and the slices are tested here; what else the close has tested takes its place among them, in the order of the refusals: whether it fits (3), whether its kinds pass (6); `plain` is the test of 10, which no close at f32 asks. R, the observed points, z and then the first t half-turns are searched (53 to 56).
 pub fn take_in(
     fits: bool,
     n: usize,

@@ -1,4 +1,4 @@
-// The floor of the house: tests of numbers that every other crate stands on. At f32, made from crates/floats by ./narrow.py: edit there.
+// Tests of numbers, and the search for a bad one. At f32, made from crates/floats by ./narrow.py: edit there.
 ghost use mathlib.Core.Path.{_≡_};
 ghost use lib.ListN.{take};
 ghost use lib.Ieee.Scale.{finite};

@@ -6,6 +6,7 @@ use crate::held::Held;
 use angles::Kind;
 use angles::Residual;
 use filter::Filter;
+use filter::checks;
 use floats::Verdict;
 use sigma::Params;
 
@@ -62,7 +63,7 @@ fn put_states(out: &mut [u8], used: usize, label: &[u8], x: &[f64; 8], n: usize)
 
 fn put_matrix(out: &mut [u8], used: usize, label: &[u8], p: &[f64; 64], n: usize) -> usize {
     let at = script::put(out, used, label);
-    script::put_numbers(out, at, p, script::times(n, n))
+    script::put_numbers(out, at, p, checks::square(n))
 }
 
 fn put_weights(out: &mut [u8], used: usize, label: &[u8], weights: &[f64; 17]) -> usize {
@@ -72,7 +73,7 @@ fn put_weights(out: &mut [u8], used: usize, label: &[u8], weights: &[f64; 17]) -
 
 fn put_points(out: &mut [u8], used: usize, label: &[u8], points: &[f64; 136], n: usize) -> usize {
     let at = script::put(out, used, label);
-    script::put_numbers(out, at, points, script::point_numbers(n))
+    script::put_numbers(out, at, points, checks::point_numbers(n, n))
 }
 
 // A close: number and place, and where accepted x and P.

@@ -2,6 +2,7 @@
 ghost use mathlib.Core.Path.{_≡_};
 use angles32::Kind;
 use angles32::Residual;
+use filter::checks;
 use filter32::Answer;
 use filter32::Filter;
 use floats::Verdict;
@@ -60,7 +61,7 @@ fn put_states(out: &mut [u8], used: usize, label: &[u8], x: &[f32; 8], n: usize)
 
 fn put_matrix(out: &mut [u8], used: usize, label: &[u8], p: &[f32; 64], n: usize) -> usize {
     let at = script::put(out, used, label);
-    script32::put_numbers(out, at, p, script::times(n, n))
+    script32::put_numbers(out, at, p, checks::square(n))
 }
 
 fn put_weights(out: &mut [u8], used: usize, label: &[u8], weights: &[f32; 17]) -> usize {
@@ -70,7 +71,7 @@ fn put_weights(out: &mut [u8], used: usize, label: &[u8], weights: &[f32; 17]) -
 
 fn put_points(out: &mut [u8], used: usize, label: &[u8], points: &[f32; 136], n: usize) -> usize {
     let at = script::put(out, used, label);
-    script32::put_numbers(out, at, points, script::point_numbers(n))
+    script32::put_numbers(out, at, points, checks::point_numbers(n, n))
 }
 
 // A close: number and place, and where accepted x and P.

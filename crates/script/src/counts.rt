@@ -1,7 +1,7 @@
-// How many numbers of an array an answer shows.
+// Where a point of a list starts.
 ghost use mathlib.Core.Path.{_≡_};
 ghost use mathlib.Core.Bool.{_&&_, cond};
-ghost use Prim.Native.Nat.{_+_, _*_};
+ghost use Prim.Native.Nat.{_*_};
 ghost use lib.Dec.{leb};
 
 // The product of two small numbers.
@@ -12,16 +12,6 @@ pub fn times(a: usize, b: usize) -> usize
         if b <= 32 {
             return a * b;
         }
-    }
-    0
-}
-
-// The numbers of the 2n+1 points of up to 8 states.
-pub fn point_numbers(n: usize) -> usize
-    ensures { λ r. ⌜ r ≡ cond (leb n 8) (n * (n + n + 1)) 0 ⌝ }
-{
-    if n <= 8 {
-        return times(n, n + n + 1);
     }
     0
 }

@@ -5,7 +5,6 @@ pub mod numbers;
 pub mod text;
 pub mod write;
 
-pub use counts::point_numbers;
 pub use counts::times;
 pub use names::Call;
 pub use names::Name;

@@ -1,4 +1,4 @@
-// Sizes, numbers, lists and kinds, each read from the next tokens of a line: what was read and the place after it, or that it is none. At f32, made from crates/script by ./narrow.py: edit there.
+// Numbers, lists and kinds, each read from the next tokens of a line: what was read and the place after it, or that it is none. At f32, made from crates/script by ./narrow.py: edit there.
 ghost use mathlib.Core.Path.{_≡_};
 ghost use Prim.Native.Nat.{ℕ, _<_};
 ghost use lib.Ieee.{nan, binary32};
