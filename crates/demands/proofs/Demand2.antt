@@ -1,5 +1,5 @@
 -- Demand 2: every number is worked out by document 01's steps, and the flat close's by those of document 02, bit for bit. The contracts say it: each names one definition, and says that all of the answer is it.
--- Here is a line for each step, which function's contract names which definition (crates by their f64 names: at f32 the namesake's, at binary32); under it, where the definition is not the document's own text, a law that it comes to that. Over every format. Assumes nothing.
+-- Here is a line for each step, which function's contract names which definition (crates by their f64 names; at f32 the namesake's, at binary32, where there is one); under it, where the definition is not the document's own text, a law that it comes to that. Over every format. Assumes nothing.
 use Prim.Native.Nat.{ℕ, zero, suc, _+_, _-_, _*_, _<_, _≤_}
 use mathlib.Core.Path.{_≡_, refl, sym, ap, _∙_}
 use mathlib.Core.Bool.{true, false}
@@ -95,7 +95,7 @@ module _ (f : Format) where
   pub turn-is-exact : (h d : Float) → T (fits f d) → T (finite d) → T (fits f h) → kindOf f (record { residual = Turn h }) ≡ accepted (record { residual = Turn h }) → Wraps f d h (throughOf f (record { residual = Turn h }) d)
   turn-is-exact = through-exact f
 
-  -- ---- What the steps work out is always a value of the format, so that the two laws above speak of it: of every pivot's root, and of every difference passed through a turn
+  -- ---- What the four operations give is always a value of the format, and so are a pivot of values of the format, whose root is taken, and a difference that is passed through a turn: so the laws above speak of them
 
   pub operations-held : (x y : Float) → T (fits f (add f x y)) × T (fits f (sub f x y)) × T (fits f (mul f x y)) × T (fits f (div f x y))
   operations-held x y = (add-fits f x y, sub-fits f x y, mul-fits f x y, div-fits f x y)

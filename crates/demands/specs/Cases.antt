@@ -1,4 +1,4 @@
--- THE TABLE OF CASES: document 01's numbers to check by hand, C1 to C12, and a run each for document 02's A1 (the flat close), A3 (settings mark stale), A4 (a pair on one sheet) and A5 (where the bad number is); each a name and a test that antt computes. At f64, and at f32 (A6) all but what is of the flat close or of a pair; with numbers of its own where the width shows. Definitions only.
+-- THE TABLE OF CASES: document 01's numbers to check by hand, C1 to C12, and a run each for document 02's A1 (the flat close), A3 (settings mark stale), A4 (a pair on one sheet), A5 (where the bad number is) and A6 (where the width shows); each a name and a test that antt computes. At f64, and at f32 all but what is of the flat close or of a pair. Definitions only.
 use Prim.Native.Nat.{ℕ, _+_}
 use Prim.Native.String.{String}
 use mathlib.Core.Bool.{Bool, true, false, _&&_, Bool·beq}
@@ -364,14 +364,27 @@ abbrev pub last : Format → Float
 last binary32 = two-to 24
 last binary64 = two-to 53
 
--- an entry of a factor that is too large: the last pivot's root is 2 ^ −63, or 2 ^ −511
+-- the largest power of two, whose double is too large
+abbrev pub largest : Format → Float
+largest binary32 = two-to 127
+largest binary64 = two-to 1023
+
+-- an entry of a factor that is too large: the first pivot's root is 2 ^ −63, or 2 ^ −511
 abbrev pub overflowing : Format → List Float
 overflowing binary32 = rows (two-to-minus 126) (int 0) (two-to 70) (int 1)
 overflowing binary64 = rows (two-to-minus 1022) (int 0) (two-to 600) (int 1)
 
--- points drawn by a root that isn't exact: a state of 0 with P = 2
+-- the square of the root of 2, as a spread comes to it: the halves of two products that are rounded, down at f32 and up at f64
+abbrev pub nearlyTwo : Format → Float
+nearlyTwo binary32 = ofBits binary32 0x3FFF_FFFF
+nearlyTwo binary64 = ofBits binary64 0x4000_0000_0000_0001
+
+-- numbers that aren't exact, through the calls: a state of 0 with P = 2 and Q = 0 is drawn, and the points come back as they are
 abbrev pub rootStory : Format → List (String × (Call × Told))
-rootStory f = ("A6 drawn by the root of 2", (setting (open-prediction three), telling 0 (int 0 ∷ rootOfTwo f ∷ neg (rootOfTwo f) ∷ []) (int 0) (int 2) true)) ∷ []
+rootStory f =
+    ("A6 drawn by the root of 2", (setting (open-prediction three), telling 0 (int 0 ∷ rootOfTwo f ∷ neg (rootOfTwo f) ∷ []) (int 0) (int 2) true))
+    ∷ ("A6 and spread by it", (closing (close-prediction (int 0 ∷ rootOfTwo f ∷ neg (rootOfTwo f) ∷ [])), telling 0 [] (int 0) (nearlyTwo f) false))
+    ∷ []
 
 -- ---- THE TABLE
 
@@ -415,6 +428,7 @@ module _ (f : Format) where
       ∷ ("A5 a turn by an infinity", says (refusal (kindOf f (record { residual = Turn (inf true) }))) 56 0)
       ∷ ("A5 a turn by 0", says (refusal (kindOf f (record { residual = Turn (int 0) }))) 6 0)
       ∷ ("A6 root of the smallest number", rootIs f (smallest f) (rootOfSmallest f))
+      ∷ ("A6 wrap by a number whose double is too large", says (wrapped (wrapOf f (int 1) (largest f)) .refusal) 6 0)
       ∷ ("A6 wi of three states", wiOf f 3 c1 is sixth f)
       ∷ ("A6 a sum, a tie rounded to even", plusOf f 1 (last f ∷ []) (int 1 ∷ []) are (last f ∷ zeros 63))
       ∷ ("A6 a difference, the same", minusOf f 1 (last f ∷ []) (frac 1 2 ∷ []) are (last f ∷ zeros 63))
@@ -428,7 +442,7 @@ module _ (f : Format) where
   callCases = against story (told f (at-first f) (map (λ e. e .1 .0) story))
 
   abbrev pub rootCases : List (String × Bool)
-  rootCases = against (rootStory f) (told f (newAnswer f 1 (int 0 ∷ []) (int 2 ∷ []) (int 1 ∷ []) c1 .filter) (map (λ e. e .1 .0) (rootStory f)))
+  rootCases = against (rootStory f) (told f (newAnswer f 1 (int 0 ∷ []) (int 2 ∷ []) (int 0 ∷ []) c1 .filter) (map (λ e. e .1 .0) (rootStory f)))
 
   abbrev pub settingCases : List (String × Bool)
   settingCases = against settingStory (told f (at-first f) (map (λ e. e .1 .0) settingStory))

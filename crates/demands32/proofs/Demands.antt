@@ -1,6 +1,6 @@
--- The demands of the f32 filter (document 02, A6), said of its own steps, runs and filters. Each is a theorem of `demands`, which are over the format, at binary32. What isn't said again here holds so too, of the filter read wide: the first section leads from one to the other. Assumes nothing.
+-- The demands of the f32 filter (document 02, A6), said of its own steps, runs and filters. Each is by a theorem of `demands`, which are over the format, at binary32. What isn't said again here holds so too, of the filter read wide: the first section leads from one to the other. Assumes nothing.
 use Prim.Native.Nat.{ℕ}
-use mathlib.Core.Path.{_≡_, sym, ap, _∙_, subst}
+use mathlib.Core.Path.{_≡_, refl, sym, ap, _∙_, subst}
 use mathlib.Core.Bool.{true, false, _||_}
 use mathlib.Core.List.{List, [], _∷_, _++_}
 use mathlib.Core.Logic.{_↔_, _≢_, _⊎_}
@@ -61,6 +61,10 @@ new-handed-back n x p q params a e =
     let w = newAnswer binary32 n x p q (wideParams params) in
     one-answer a (newNarrow n x p q params) (e ∙ ap (λ (s : Wide). record { filter = s; refusal = w .refusal }) (sym (forth-filter (w .filter))))
 
+-- What it tells is the reply of `filter`'s step itself, so that the contracts of opens and readings, which say what is handed out, speak of it as they stand.
+pub reply-as-it-is : (s : Filter) (c : Call) → stepNarrow s c .reply ≡ step binary32 (wideFilter s) c .reply
+reply-as-it-is s c = refl
+
 -- The filter after a step, read wide, is that of `filter`'s step, and a run tells what it tells there; so do the filters that the demands speak of belong to those there.
 pub step-read-wide : (s : Filter) (c : Call) → wideFilter (stepNarrow s c .filter) ≡ step binary32 (wideFilter s) c .filter
 step-read-wide = step-carried
@@ -96,7 +100,7 @@ new-exactly-when n x p q params = demand1.new-exactly-when binary32 n x p q (wid
 pub new-taken-when : (n : ℕ) (x p q : List Float) (params : Params) → (newNarrow n x p q params .refusal ≡ taken) ↔ ((d : Cause) → Applies binary32 (newAsks n (from x p ∷ []) q (wideParams params)) [] d → ⊥)
 new-taken-when n x p q params = demand1.new-taken-when binary32 n x p q (wideParams params)
 
--- 51 to 56 tell the first bad number in the order of the search,
+-- From every call but the opens, 51 to 56 tell the first bad number in the order of the search,
 pub number-when : (s : Filter) (c : Call) → (IsOpen c → ⊥) → (t : Slice) (i : ℕ) → (stepNarrow s c .reply .refusal ≡ verdict (NUMBER t i)) ↔ (Free binary32 4 (wideFilter s) c × FirstBad t i (searches (s .sheet .n) c))
 number-when s = demand1.number-when binary32 (wideFilter s)
 
@@ -142,7 +146,7 @@ yielded-is-sound y = demand1.yielded-is-sound binary32 (yielded-carried y)
 pub reached-is-tidy : {s : Filter} → Reached s → Sound binary32 (wideFilter s) × Tidy (wideFilter s)
 reached-is-tidy y = demand1.reached-is-tidy binary32 (reached-carried y)
 
--- ---- Demand 2: the contracts of the f32 functions cite the definitions that those of f64 cite, at binary32
+-- ---- Demand 2: the contracts of the f32 functions cite the definitions that those of f64 cite, at binary32, and Demand2 has a line for each step; here are the root and the wrap
 
 -- The root is the nearest f32; for every f32 the outcome is what document 01 asks, and of two answers with such an outcome each is the other.
 pub root-nearest : (x : Float) → T (fits binary32 x) → T (rooted x) → Nearest binary32 x (rootOf binary32 x)
@@ -154,7 +158,7 @@ root-asked = demand2.root-asked binary32
 pub root-one : (x : Float) (a b : Root) → T (fits binary32 x) → Asked binary32 x (outcomeOf (wideRoot a)) → Asked binary32 x (outcomeOf (wideRoot b)) → a ≡ b
 root-one x a b h k l = one-root a b (one-case (wideRoot a) (wideRoot b) (demand2.root-only binary32 x _ h k ∙ sym (demand2.root-only binary32 x _ h l)))
 
--- The wrap is exact, and within (−h, h]; so is a difference passed through a turn.
+-- An accepted wrap is exact, and within (−h, h]; so is a finite difference passed through a turn that has passed its check.
 pub wrap-is-exact : (d h : Float) → T (fits binary32 d) → T (fits binary32 h) → wrapped (wrapOf binary32 d h) .refusal .number ≡ 0 → Wraps binary32 d h (wrapped (wrapOf binary32 d h) .value)
 wrap-is-exact = demand2.wrap-is-exact binary32
 

@@ -1,4 +1,4 @@
--- The filter, its parts and its answers at f32, read as those at f64: the types change, and no number does, as a `Float` is a value of any format. So what is said of those over the format is said of these. Definitions only.
+-- The filter, its parts and its answers at f32, read as those at f64: the types change, and no number does, as a `Float` is a value, of whatever format. So what is said of those over the format is said of these. Definitions only.
 use Rattle.filter.specs.declared.Sheet.{Sheet}
 use Rattle.filter.specs.declared.Track.{Track}
 use Rattle.filter.specs.declared.Filter.{Filter}

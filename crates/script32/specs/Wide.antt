@@ -1,4 +1,4 @@
--- What a number and a kind are read as at f32, with the types of f64: no number changes, as a `Float` is a value of any format. Definitions only.
+-- What a number and a kind are read as at f32, with the types of f64: no number changes, as a `Float` is a value, of whatever format. Definitions only.
 use Rattle.script.specs.declared.numbers.NumberRead.{NumberRead}
 use Rattle.script.specs.declared.numbers.NumberRead.the-variants.{Number, NoNumber}
 use Rattle.script.specs.declared.numbers.KindRead.{KindRead}
