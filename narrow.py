@@ -2,7 +2,7 @@
 """Makes the crates at f32 from those at f64: the floors, and what the programs read, answer and write.  narrow.py [CRATE..] writes crates/CRATE32;  narrow.py --check says which made files have parted from what it would make, and ends with 1 where some have.
 
 Code and the proofs of functions are the same text but for the width: an edit belongs into the f64 crate, and is made here again. Definitions and laws are over the format: they are cited, never copied.
-What has no float in it is SHARED: called, and not made again. What the f32 filter lacks is LEFT. Written by hand are specs/, must-fail/, the laws of lists of kinds in angles32, the root of replay32, and the proofs under OWN.
+What has no float in it is SHARED: called, and not made again. What the f32 filter lacks is LEFT, a field of it LACKED. Written by hand are specs/, must-fail/, the laws of lists of kinds in angles32, the root of replay32, and the proofs under OWN.
 A contract reads a struct or enum T of f32 as the one of f64, by wideT of specs/Wide.antt; PROOFS, ARGS, HELD and NUMBERS have the few other words in which the widths differ.
 """
 import os
@@ -23,24 +23,27 @@ SHARED = {
     'words': ['lib::Word', 'lib::digit', 'lib::is_between'],
     'script': [
         'lib::counts', 'lib::names', 'lib::text', 'numbers::SizeRead', 'numbers::size_at', 'numbers::ListRead',
-        'write::put', 'write::less', 'write::first', 'write::gather', 'write::put_decimal', 'write::put_verdict', 'write::put_bit', 'write::put_stage',
+        'write::put', 'write::less', 'write::first', 'write::gather', 'write::put_decimal', 'write::put_verdict', 'write::put_bit', 'write::put_stage', 'write::put_way',
     ],
 }
-# what is not asked for at f32: the guess at a root and its judge (the digits alone are quick enough there), the flat close and what it tests; of replay the program itself, what is held, and the lines that are not the filter's
+# what is not asked for at f32: the guess at a root and its judge (the digits alone are quick enough there), the flat close and what it tests, what a stepped call keeps; of replay the program itself, what is held, and the lines and parts of answers that are not the f32 filter's
 LEFT = {
     'root': ['lib::is_nearest_root', 'lib::product', 'lib::high_part', 'lib::guessed_root', 'lib::nearest_root'],
     'correction': ['lib::flat'],
-    'filter': ['closes::close_correction_flat', 'tests::is_plain', 'tests::all_plain'],
-    'replay': ['lib::main', 'lib::take_piece', 'lib::held', 'calls::new_pair', 'calls::kinds_of', 'calls::on_side', 'calls::narrow', 'calls::code', 'calls::answer'],
+    'filter': ['closes::close_correction_flat', 'tests::is_plain', 'tests::all_plain', 'lib::Kept', 'drawn::nothing_kept'],
+    'replay': ['lib::main', 'lib::take_piece', 'lib::held', 'calls::new_pair', 'calls::kinds_of', 'calls::on_side', 'calls::narrow', 'calls::code', 'calls::answer',
+               'calls::image_correction', 'calls::observed_of', 'calls::stepped', 'answers::image_numbers', 'answers::put_progress', 'answers::put_kept'],
 }
-# proofs that are written by hand: at f64 a count of zeros is cast, at f32 it isn't; four kinds are read wide at once
-OWN = {'root': ['positive_root'], 'correction': ['widened'], 'filter': ['tests::halves']}
+# a field that f32 lacks, with the lines that make it and fill it in: its constant stands in wideT alone
+LACKED = {'filter': ['kept']}
+# proofs that are not made: those written by hand, as at f64 a count of zeros is cast and at f32 it isn't, and as four kinds are read wide at once; and one that isn't needed, as nothing is called where nothing is kept
+OWN = {'root': ['positive_root'], 'correction': ['widened'], 'filter': ['tests::halves', 'drawn::with_drawn']}
 # the structs and enums with floats, and where their wide.. stands
 TYPES = {
     'Root': 'root', 'Wrapped': 'angles', 'Residual': 'angles', 'Kind': 'angles', 'Factor': 'matrix', 'Params': 'sigma', 'Drawn': 'sigma', 'Moments': 'sigma', 'Weighting': 'sigma', 'Intake': 'filter',
     'Weighted': 'filter', 'Sheet': 'filter', 'Track': 'filter', 'Filter': 'filter', 'Answer': 'filter', 'ParamsRead': 'filter', 'NewSheet': 'filter', 'NewTrack': 'filter', 'NumberRead': 'script', 'KindRead': 'script',
 }
-# words of made proofs that differ, since a list of kinds or an answer is read wide there, or a cast has a need of its own: crate -> function -> [(f64's, f32's)]
+# words of made proofs that differ, since a list of kinds or an answer is read wide there, a cast has a need of its own, or a field that f32 lacks isn't made: crate -> function -> [(f64's, f32's)]
 PROOFS = {
     'sigma': {
         'mean::offset': [('d t w kinds i)', 'd t w (wideKinds kinds) i)'), ('.place .ensures .0)', '.place .ensures .0, kind-at)')],
@@ -55,6 +58,8 @@ PROOFS = {
         'correct_with_weights_residuals': [('(a .kinds)', '(wideKinds (a .kinds))'), ('(a .measured)', '(wideKinds (a .measured))')],
     },
     'filter': {
+        'new::fresh_track': [('use borrow.Author.Needs.{needs}', 'use mathlib.Core.Path.{refl}'), ('rw (c .nothing-kept .ensures)', 'refl'), ('(λ c κs. search needs) ', '')],
+        'Filter::close': [('use borrow.Author.Needs.{needs}\n', ''), ('c .nothing-kept .ensures, eq-eqb _ _ (c .before', 'eq-eqb _ _ (c'), ('(λ c κs. search needs) ', '')],
         'new::fresh_sheet': [('statement M\n', 'statement M\nunfolding wideKinds\n')],
         'Filter::set_kind': [('(λ c. has-finished (asked (c .before .before)) (c .if1 .left) refl refl)', '(λ c. rw kinds-set (has-finished (asked (c .before .before)) (c .if1 .left) refl refl))')],
         'tests::kinds_pass': [
@@ -95,16 +100,21 @@ SAID = {
         (' by weighted averages through the kinds or, in `flat`, by flat ones without kinds; and the steps that both share.', ' by weighted averages through the kinds.'),
         ("The steps that both share (the Rust's `compute_kalman_gain` and `apply_correction`), from z mean", "The steps (the Rust's `compute_kalman_gain` and `apply_correction`) from z mean"),
     ],
+    'filter/lib.rt': [('what is open, what that has drawn and what it keeps.', 'what is open and what that has drawn.'), ('what an open call has drawn and keeps.', 'what an open call has drawn.')],
+    'filter/drawn.rt': [('has been drawn; nothing is kept yet.', 'has been drawn.')],
     'filter/closes.rt': [('and the two ways to close a correction:', 'and close correction:')],
     'filter/tests.rt': [('// ---- 10 and 6\n', '// ---- 6\n')],
     'filter/measurement.rt': [("takes its place among them, in the order of the refusals: whether it fits (3), whether the kinds that have to be plain are (10), whether its kinds pass (6).", "takes its place among them, in the order of the refusals: whether it fits (3), whether its kinds pass (6); `plain` is the test of 10, which no close at f32 asks.")],
     'script/numbers.rt': [('// Sizes, numbers, lists and kinds, each', '// Numbers, lists and kinds, each')],
+    'replay/calls.rt': [(', imagep LIST', ''), (', ask BUF', ''), (', sopenp, sopenc, sclosep:', ':')],
+    'replay/solo.rt': [(', imagep:', ':'), (', ask:', ':')],
     'filter/new.rt': [('Each part is made by itself, and several tracks may be put on one sheet.', 'Each part is made by itself.')],
 }
 # where the words that a made proof takes in stand
 HOMES = {w: ('angles', 'proofs.Places') for w in ('kind-at', 'kinds-set', 'kinds-long')}
-# in replay: at f32 the filter is all that is held and its answer all that a call has left, and there is no side and no flat close
+# in replay: at f32 the filter is all that is held and its answer all that a call has left, and there is no side, no flat close and no stepped call
 HELD = [
+    (r'^ *Name::(?:Ask|Image\w+|\w+Stepped)\b.* => (?:\{\n.*\n *\}|.*)\n', ''), (r'\bstepped\(name, held, s, at, out, used\)', 'answers::bad(held, out, used)'), (r'observed_of\(name, ', 'script::list_at('), (r'^ *let at = put_kept\(.*\n', ''),
     ('use crate::held;', 'use crate::solo;'), ('use crate::held::Held;', 'use filter::Filter;'), ('use crate::held::Done;', 'use filter::Answer;'), (r'\bHeld\b', 'Filter'), (r'\bDone\b', 'Answer'),
     (r'\ba( ?)\.held\b', r'a\1.filter'), (r'held::shown\(held\)', 'held'), (r'held::alone\(held, (.*)\);', r'\1;'), (r'held::with_measurement\(name, held, ', 'held.close_correction('),
     (r'held::with_', 'solo::with_'), (r'held::(\w+)\(held(?:, )?', r'held.\1('), (r', closef [^\n]*', ''), (' or on a side of the pair: the same lines', ''),
@@ -239,6 +249,8 @@ def source(crate, name, text):
         module, item = s.split('::')
         if name == module + '.rt':
             text = without(text, item)
+    for field in LACKED.get(crate, []):
+        text = re.sub(rf'^ *(?:pub {field}: \w+,|let {field} = [^\n]*;|{field},)\n', '', text, flags=re.M)
     for s in SHARED.get(crate, []):
         module, item = s.split('::')
         there = crate if module == 'lib' else f'{crate}::{module}'

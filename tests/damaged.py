@@ -1,7 +1,7 @@
 #!/usr/bin/env python3
 """damaged.py COMMAND SCRIPT [ROUNDS] [SEED]: damages a script and holds the command that replays it to one answer in form for each call line.
 
-Each round takes a run of the script's lines and flips bytes, cuts, joins, doubles or lengthens lines, puts a side or the f32 filter before them, or drops the last newline. The command has to end
+Each round takes a run of the script's lines and flips bytes, cuts, joins, doubles or lengthens lines, puts a side or the f32 filter before them, a stepped call between them, or drops the last newline. The command has to end
 with status 0 and write one line for each line that holds a token, comment stripped, or is longer than 16,384 bytes: `bad`, or what begins with a number and its place (docs/SCRIPT.md).
 Prints how many rounds and lines that were.
 """
@@ -68,7 +68,18 @@ def address(lines, rng):
     lines[i] = rng.choice([b'@1 ', b'@2 ', b'@1', b'@', b'@3 ', b'@1 @2 ', b'@w ', b'@w @1 ']) + lines[i]
 
 
-DAMAGES = [flip, flip, flip, replace, replace, cut, cut, join, double, lengthen, address]
+STEPS = [b'sopenp', b'sopenc', b'ask 8', b'ask 0', b'imagep 0', b'imagep 1 4000000000000000', b'imagec 1 1 4000000000000000', b'imagec 2 1 7ff8000000000000', b'sclosep',
+         b'sclosec 1 1 4008000000000000 1 4028000000000000 p p t 0000000000000000 p', b'sclosef 1 1 4008000000000000 1 4028000000000000']
+
+
+def step(lines, rng):
+    """Stepped calls between two lines, on any filter, one of them at times again and again: whatever is open, and however far it is."""
+    i = rng.randrange(len(lines) + 1)
+    on = rng.choice([b'', b'', b'@1 ', b'@2 ', b'@w '])
+    lines[i:i] = [on + rng.choice(STEPS) for _ in range(rng.randint(1, 3))] if rng.random() < 0.7 else [on + rng.choice(STEPS)] * rng.randint(2, 20)
+
+
+DAMAGES = [flip, flip, flip, replace, replace, cut, cut, join, double, lengthen, address, step, step]
 
 
 def main():

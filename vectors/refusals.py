@@ -1,10 +1,11 @@
 """Every refusal of every call that can give it, each held against the next one in the order 3, 1, 2, 4, 51 to 56, 10, 6, then 7, 8, 9 as met:
 of the solo filter, of what a pair has beyond it, then once more on a side of a pair, which answers as the solo filter does, and on the f32 filter,
-which does so too with numbers of its width and has no flat close.
+which does so too with numbers of its width and has no flat close and no stepped calls.
 Each number is followed by its place: of the first bad number in its slice for 51 to 56, the row of the pivot for 7 and 8, else 0.
 The answers stand here as they were written by hand from documents 01 and 02; run, it writes them as a script of calls (docs/SCRIPT.md) and its answers:
     refusals.py SCRIPT ANSWERS
-A number with a point, nan, inf, a power 2^K or a name of SIZES becomes the bits of a float, [..] a list with its length in front, and bK what place K of a lent buffer holds before a call."""
+A number with a point, nan, inf, a power 2^K or a name of SIZES becomes the bits of a float, [..] a list with its length in front, and bK what place K of a lent buffer holds before a call.
+A dump at f64 that says nothing of steps goes on as one does without them (`without_steps`)."""
 import sys
 
 sys.dont_write_bytecode = True
@@ -22,7 +23,7 @@ SIZES = {
 LENT = {16: 0x4330000000000000, 8: 0x4B000000}
 
 FIRST = [
-    '# before the first new: the empty filter. Nothing is open, so closes and abandon are 3; every other call is 1, whatever its slices and numbers',
+    '# before the first new: the empty filter. Nothing is open, so closes, asking, images and abandon are 3; every other call is 1, whatever its slices and numbers',
     ('setx []', '1 0'),
     ('setp [nan]', '1 0'),
     ('setq []', '1 0'),
@@ -33,6 +34,14 @@ FIRST = [
     ('closep []', '3 0'),
     ('closec 9 [] [] p p p p []', '3 0'),
     ('closef 9 [nan] [] []', '3 0'),
+    ('sopenp', '1 0'),
+    ('sopenc', '1 0'),
+    ('ask 0', '3 0 0'),
+    ('imagep []', '3 0'),
+    ('imagec 9 [nan]', '3 0'),
+    ('sclosep', '3 0'),
+    ('sclosec 9 [] [] t nan p p p', '3 0'),
+    ('sclosef 9 [nan] []', '3 0'),
     ('abandon', '3 0'),
     ('readx 0', '1 0 0'),
     ('readp 1', '1 0 1 b0'),
@@ -65,11 +74,18 @@ FIRST = [
     '# numbers past what is needed are not judged',
     ('new 1 [2.0 nan] [4.0 inf] [1.0 nan] 1.0 0.0 0.0', '0 0'),
     ('dump', '0 0 n 1 x 2.0 P 4.0 Q 1.0 par 1.0 0.0 0.0 kinds p w 0.0 0.0 pts 0.0 0.0 0.0 stale 1 open - dw 0.0 0.0 dpts 0.0 0.0 0.0'),
-    '# nothing open: closes and abandon are 3, before 1 (m = 9), 2 and 55',
+    '# nothing open: closes, asking, images and abandon are 3, before 1 (m = 9), 2, 54 and 55',
     ('closep []', '3 0'),
     ('closec 9 [nan] [] p p p p []', '3 0'),
     ('closef 9 [nan] [] []', '3 0'),
     ('closef 1 [6.0] [10.0] [2.0 5.0 -1.0]', '3 0'),
+    ('ask 0', '3 0 0'),
+    ('ask 2', '3 0 2 b0 b1'),
+    ('imagep [nan]', '3 0'),
+    ('imagec 9 []', '3 0'),
+    ('sclosep', '3 0'),
+    ('sclosec 9 [nan] [] p p p p', '3 0'),
+    ('sclosef 1 [6.0] [10.0]', '3 0'),
     ('abandon', '3 0'),
     '# setters: 2, then 51, 52 and 53; what they refuse they leave',
     ('setx []', '2 0'),
@@ -108,6 +124,8 @@ FIRST = [
     ('openc 2', '2 0 2 b0 b1'),
     ('openp 3', '7 0 3 b0 b1 b2'),
     ('openc 3', '7 0 3 b0 b1 b2'),
+    ('sopenp', '7 0'),
+    ('sopenc', '7 0'),
     ('setp [0.0]', '0 0'),
     ('openp 3', '7 0 3 b0 b1 b2'),
     ('setx [BIG]', '0 0'),
@@ -116,6 +134,8 @@ FIRST = [
     ('setpar 1.0 0.0 LARGE', '0 0'),
     ('openp 3', '9 0 3 b0 b1 b2'),
     ('openc 4', '9 0 4 b0 b1 b2 b3'),
+    ('sopenp', '9 0'),
+    ('sopenc', '9 0'),
     ('setpar 1.0 0.0 0.0', '0 0'),
     ('setx [2.0]', '0 0'),
     ('setp [4.0]', '0 0'),
@@ -131,6 +151,16 @@ FIRST = [
     ('closec 9 [] [] p p p p []', '3 0'),
     ('closef 9 [nan] [] []', '3 0'),
     ('closef 1 [6.0] [10.0] [2.0 5.0 -1.0]', '3 0'),
+    ('sopenp', '3 0'),
+    ('sopenc', '3 0'),
+    ('ask 0', '3 0 0'),
+    ('ask 1', '3 0 1 b0'),
+    ('imagep [2.0]', '3 0'),
+    ('imagep [nan]', '3 0'),
+    ('imagec 9 []', '3 0'),
+    ('sclosep', '3 0'),
+    ('sclosec 9 [] [] p p p p', '3 0'),
+    ('sclosef 1 [6.0] [10.0]', '3 0'),
     ('readx 1', '0 0 1 2.0'),
     ('readpts 3', '4 0 3 b0 b1 b2'),
     ('readstale', '0 0 1'),
@@ -187,6 +217,13 @@ FIRST = [
     ('setq [1.0]', '0 0'),
     ('openc 3', '0 0 3 2.0 4.0 0.0'),
     ('closep [2.0 4.0 0.0]', '3 0'),
+    ('ask 1', '3 0 1 b0'),
+    ('imagep [2.0]', '3 0'),
+    ('imagec 1 [2.0]', '3 0'),
+    ('imagec 9 [nan]', '3 0'),
+    ('sclosep', '3 0'),
+    ('sclosec 1 [3.0] [12.0] p p p p', '3 0'),
+    ('sclosef 9 [nan] []', '3 0'),
     '# its close: 1 before 2, 2 before 53 and 55, each of 53 to 56 before any 6, 6 before 8, 8; 9 at z mean before 8',
     ('closec 0 [] [] p p p p []', '1 0'),
     ('closec 5 [] [] p p p p []', '1 0'),
@@ -375,6 +412,222 @@ FLAT_OF_TWO = [
     ('closef 1 [4.0] [6.0] [0.0 5.0 0.0 -5.0 0.0]', '0 0 x 1.0 0.0 P 3.0 0.0 0.0 4.0'),
 ]
 
+# The points that a stepped correction draws from x = 0 and P = 4 on two states, 0 observed of the first, 5 of the second, and so on.
+SEEN = [call for point, image in (('0.0 0.0', '0.0'), ('2.0 0.0', '5.0'), ('0.0 2.0', '0.0'), ('-2.0 0.0', '-5.0'), ('0.0 -2.0', '0.0'))
+        for call in (('ask 2', f'0 0 2 {point}'), (f'imagec 1 [{image}]', '0 0'))]
+
+# Request A7, on two states: alpha 1, kappa -1 make N 1, so P = 4 draws points two away from x; weights 0 (w0c), 0.5 (wi).
+STEPS = [
+    '# a stepped prediction before its first ask: the whole-list way, the other stage, an early close (before 1, 2 and 55) and an image whose point was not asked for are 3, before 1, 2 and 54',
+    ('new 2 [0.0 0.0] [4.0 0.0 0.0 4.0] [1.0 0.0 0.0 1.0] 1.0 0.0 -1.0', '0 0'),
+    ('sopenp', '0 0'),
+    ('dump', '0 0 n 2 x 0.0 0.0 P 4.0 0.0 0.0 4.0 Q 1.0 0.0 0.0 1.0 par 1.0 0.0 -1.0 kinds p p w 0.0 0.0 pts 0.0 0.0 0.0 0.0 0.0 0.0 0.0 0.0 0.0 0.0 stale 1 open p dw -1.0 0.5 '
+        'dpts 0.0 0.0 2.0 0.0 0.0 2.0 -2.0 0.0 0.0 -2.0 way s at 0 asked 0 m 0 img'),
+    ('setx []', '3 0'),
+    ('setp [nan]', '3 0'),
+    ('setq []', '3 0'),
+    ('setpar nan 0.0 0.0', '3 0'),
+    ('setkind 9 t nan', '3 0'),
+    ('openp 0', '3 0 0'),
+    ('openc 0', '3 0 0'),
+    ('sopenp', '3 0'),
+    ('sopenc', '3 0'),
+    ('closep []', '3 0'),
+    ('closep [0.0 0.0 2.0 0.0 0.0 2.0 -2.0 0.0 0.0 -2.0]', '3 0'),
+    ('closec 9 [] [] p p p p []', '3 0'),
+    ('closef 9 [nan] [] []', '3 0'),
+    ('sclosep', '3 0'),
+    ('sclosec 9 [] [] p p p p', '3 0'),
+    ('sclosef 9 [nan] []', '3 0'),
+    ('imagep []', '3 0'),
+    ('imagep [nan 0.0]', '3 0'),
+    ('imagep [0.0 0.0]', '3 0'),
+    ('imagec 9 []', '3 0'),
+    '# asking: 2, which does not count as asked; then the point, twice the same; the rest of the buffer stands. Readings are taken',
+    ('ask 1', '2 0 1 b0'),
+    ('imagep [0.0 0.0]', '3 0'),
+    ('ask 2', '0 0 2 0.0 0.0'),
+    ('ask 4', '0 0 4 0.0 0.0 b2 b3'),
+    ('ask 1', '2 0 1 b0'),
+    ('readstale', '0 0 1'),
+    ('readpts 10', '4 0 10 b0 b1 b2 b3 b4 b5 b6 b7 b8 b9'),
+    '# its image: the other sort is 3; 2 before 54; 54 at the place in this image, the first bad number; its point stays asked for. Past what is needed nothing is judged',
+    ('imagec 2 [0.0 0.0]', '3 0'),
+    ('imagep [nan]', '2 0'),
+    ('imagep [nan inf]', '54 0'),
+    ('imagep [0.0 -inf]', '54 1'),
+    ('sclosep', '3 0'),
+    ('imagep [0.0 0.0 nan]', '0 0'),
+    ('imagep [0.0 0.0]', '3 0'),
+    ('imagep [nan]', '3 0'),
+    ('ask 2', '0 0 2 2.0 0.0'),
+    ('imagep [inf 0.0]', '54 0'),
+    ('imagep [4.0 0.0]', '0 0'),
+    ('ask 2', '0 0 2 0.0 2.0'),
+    ('imagep [0.0 2.0]', '0 0'),
+    ('ask 2', '0 0 2 -2.0 0.0'),
+    ('imagep [-4.0 0.0]', '0 0'),
+    ('ask 3', '0 0 3 0.0 -2.0 b2'),
+    '# one image is missing: an early close; then none is, and asking, even with a short buffer, and an image are 3, and closes of the other way and stage',
+    ('sclosep', '3 0'),
+    ('dump', '0 0 n 2 x 0.0 0.0 P 4.0 0.0 0.0 4.0 Q 1.0 0.0 0.0 1.0 par 1.0 0.0 -1.0 kinds p p w 0.0 0.0 pts 0.0 0.0 0.0 0.0 0.0 0.0 0.0 0.0 0.0 0.0 stale 1 open p dw -1.0 0.5 '
+        'dpts 0.0 0.0 2.0 0.0 0.0 2.0 -2.0 0.0 0.0 -2.0 way s at 4 asked 1 m 0 img 0.0 0.0 4.0 0.0 0.0 2.0 -4.0 0.0'),
+    ('imagep [0.0 -2.0]', '0 0'),
+    ('ask 0', '3 0 0'),
+    ('ask 2', '3 0 2 b0 b1'),
+    ('imagep [0.0 -2.0]', '3 0'),
+    ('closep [0.0 0.0 4.0 0.0 0.0 2.0 -4.0 0.0 0.0 -2.0]', '3 0'),
+    ('sclosec 9 [nan] [] p p p p', '3 0'),
+    '# the mean is 0, 0; P = 0.5*16 + 0.5*16 + 1 and 0.5*4 + 0.5*4 + 1. The images are installed, and what was kept is +0',
+    ('sclosep', '0 0 x 0.0 0.0 P 17.0 0.0 0.0 5.0'),
+    ('dump', '0 0 n 2 x 0.0 0.0 P 17.0 0.0 0.0 5.0 Q 1.0 0.0 0.0 1.0 par 1.0 0.0 -1.0 kinds p p w -1.0 0.5 pts 0.0 0.0 4.0 0.0 0.0 2.0 -4.0 0.0 0.0 -2.0 stale 0 open - dw 0.0 0.0 '
+        'dpts 0.0 0.0 0.0 0.0 0.0 0.0 0.0 0.0 0.0 0.0'),
+    '# a stepped correction on these points. m is none: 1, before 2 and 54; 2 before 54; 54; a refused first image names no m',
+    ('sopenc', '0 0'),
+    ('closec 1 [4.0] [16.0] p p p p [0.0 4.0 0.0 -4.0 0.0]', '3 0'),
+    ('closef 1 [4.0] [16.0] [0.0 4.0 0.0 -4.0 0.0]', '3 0'),
+    ('sclosep', '3 0'),
+    ('imagec 5 []', '3 0'),
+    ('ask 2', '0 0 2 0.0 0.0'),
+    ('imagep [0.0 0.0]', '3 0'),
+    ('imagec 0 []', '1 0'),
+    ('imagec 5 [nan nan nan nan nan]', '1 0'),
+    ('imagec 18446744073709551615 []', '1 0'),
+    ('imagec 4 [nan 0.0 0.0]', '2 0'),
+    ('imagec 3 [0.0 nan inf]', '54 1'),
+    ('imagec 3 [0.0 0.0 inf]', '54 2'),
+    ('sclosec 3 [0.0 0.0 0.0] [] p p p p', '3 0'),
+    ('imagec 1 [0.0 nan]', '0 0'),
+    '# not asked for and another m: 3. Another m and short, or not finite: 1; its own m and short: 2',
+    ('imagec 2 []', '3 0'),
+    ('ask 2', '0 0 2 4.0 0.0'),
+    ('imagec 2 []', '1 0'),
+    ('imagec 2 [nan 0.0]', '1 0'),
+    ('imagec 0 [4.0]', '1 0'),
+    ('imagec 1 []', '2 0'),
+    ('imagec 1 [-inf]', '54 0'),
+    ('imagec 1 [4.0]', '0 0'),
+    ('ask 2', '0 0 2 0.0 2.0'),
+    ('imagec 1 [0.0]', '0 0'),
+    ('ask 2', '0 0 2 -4.0 0.0'),
+    ('imagec 1 [-4.0]', '0 0'),
+    '# early, with another m and with m = 9; asked for or not',
+    ('sclosec 1 [4.0] [16.0] p p p p', '3 0'),
+    ('sclosef 9 [nan] []', '3 0'),
+    ('ask 2', '0 0 2 0.0 -2.0'),
+    ('sclosec 9 [] [] t nan p p p', '3 0'),
+    ('sclosef 2 [] []', '3 0'),
+    ('imagec 1 [0.0]', '0 0'),
+    ('ask 2', '3 0 2 b0 b1'),
+    ('imagec 1 [0.0]', '3 0'),
+    ('imagec 2 [nan]', '3 0'),
+    '# all images are in: another m, even where z is short or not finite, 1; then 2 (z, R) before 53, 53, 55 and 56 in this order, these before 6, 6 before 8, 8 (S = 16 - 40)',
+    ('sclosec 2 [] [] p p p p', '1 0'),
+    ('sclosec 2 [nan 0.0] [16.0 0.0 0.0 16.0] p p p p', '1 0'),
+    ('sclosec 0 [] [] p p p p', '1 0'),
+    ('sclosec 5 [nan] [nan] p p p p', '1 0'),
+    ('sclosec 1 [] [nan] p p p p', '2 0'),
+    ('sclosec 1 [nan] [] t nan p p p', '2 0'),
+    ('sclosec 1 [nan] [inf] t nan p p p', '53 0'),
+    ('sclosec 1 [nan] [-40.0] t nan p p p', '55 0'),
+    ('sclosec 1 [4.0] [-40.0] t nan p p p', '56 0'),
+    ('sclosec 1 [4.0] [-40.0] t 0.0 t nan p p', '6 0'),
+    ('sclosec 1 [4.0] [-40.0] p t nan t 0.0 p', '8 0'),
+    '# all images are kept. z mean = 0, S = 0.5*16 + 0.5*16 + 48 = 64, C = 0.5*4*4 + 0.5*4*4 = 16 and 0, K = 16/64 and 0, y = 4, x = 1 and 0, P = 17 - 16*0.25. Kinds from m up and tails are not read',
+    ('dump', '0 0 n 2 x 0.0 0.0 P 17.0 0.0 0.0 5.0 Q 1.0 0.0 0.0 1.0 par 1.0 0.0 -1.0 kinds p p w -1.0 0.5 pts 0.0 0.0 4.0 0.0 0.0 2.0 -4.0 0.0 0.0 -2.0 stale 0 open c dw -1.0 0.5 '
+        'dpts 0.0 0.0 4.0 0.0 0.0 2.0 -4.0 0.0 0.0 -2.0 way s at 5 asked 0 m 1 img 0.0 4.0 0.0 -4.0 0.0'),
+    ('sclosec 1 [4.0 nan] [48.0 inf] p t nan t 0.0 p', '0 0 x 1.0 0.0 P 13.0 0.0 0.0 5.0'),
+    ('dump', '0 0 n 2 x 1.0 0.0 P 13.0 0.0 0.0 5.0 Q 1.0 0.0 0.0 1.0 par 1.0 0.0 -1.0 kinds p p w -1.0 0.5 pts 0.0 0.0 4.0 0.0 0.0 2.0 -4.0 0.0 0.0 -2.0 stale 1 open - dw 0.0 0.0 '
+        'dpts 0.0 0.0 0.0 0.0 0.0 0.0 0.0 0.0 0.0 0.0'),
+    ('sclosec 1 [4.0] [48.0] p p p p', '3 0'),
+    ('ask 2', '3 0 2 b0 b1'),
+    '# the flat close on a filter with a turn: 1, 2, 53 and 55 before 10, 10 before 8 (S = 10 - 12). Abandon at any step: with all images in, after an ask, before one; then 3',
+    ('setx [0.0 0.0]', '0 0'),
+    ('setp [4.0 0.0 0.0 4.0]', '0 0'),
+    ('setkind 1 t 180.0', '0 0'),
+    ('sopenc', '0 0'),
+    *SEEN,
+    ('sclosef 2 [] []', '1 0'),
+    ('sclosef 9 [nan] [nan]', '1 0'),
+    ('sclosef 1 [nan] []', '2 0'),
+    ('sclosef 1 [] [nan]', '2 0'),
+    ('sclosef 1 [nan] [nan]', '53 0'),
+    ('sclosef 1 [inf] [-12.0]', '55 0'),
+    ('sclosef 1 [4.0] [-12.0]', '10 0'),
+    ('abandon', '0 0'),
+    ('setkind 1 p', '0 0'),
+    ('sopenc', '0 0'),
+    ('ask 2', '0 0 2 0.0 0.0'),
+    ('abandon', '0 0'),
+    ('sopenp', '0 0'),
+    ('abandon', '0 0'),
+    ('abandon', '3 0'),
+    ('dump', '0 0 n 2 x 0.0 0.0 P 4.0 0.0 0.0 4.0 Q 1.0 0.0 0.0 1.0 par 1.0 0.0 -1.0 kinds p p w -1.0 0.5 pts 0.0 0.0 4.0 0.0 0.0 2.0 -4.0 0.0 0.0 -2.0 stale 1 open - dw 0.0 0.0 '
+        'dpts 0.0 0.0 0.0 0.0 0.0 0.0 0.0 0.0 0.0 0.0'),
+    '# 8, then the weighted close refused by 6, then the flat one as above: S = 10 + 6, C = 4 and 0, K = 0.25 and 0',
+    ('sopenc', '0 0'),
+    *SEEN,
+    ('sclosef 1 [4.0] [-12.0]', '8 0'),
+    ('sclosec 1 [4.0] [6.0] t -1.0 p p p', '6 0'),
+    ('sclosef 1 [4.0 nan] [6.0 inf]', '0 0 x 1.0 0.0 P 3.0 0.0 0.0 4.0'),
+    '# two measurements: the place in R, in z, among the half-turns (all of them before 6), the row of the pivot; S is R where zeros are observed, and C = 0. The points are drawn afresh',
+    ('setp [4.0 0.0 0.0 4.0]', '0 0'),
+    ('sopenc', '0 0'),
+    ('ask 2', '0 0 2 1.0 0.0'),
+    ('imagec 2 [0.0 0.0]', '0 0'),
+    ('ask 2', '0 0 2 3.0 0.0'),
+    ('imagec 2 [0.0 nan]', '54 1'),
+    ('imagec 2 [0.0 0.0]', '0 0'),
+    ('ask 2', '0 0 2 1.0 2.0'),
+    ('imagec 2 [0.0 0.0]', '0 0'),
+    ('ask 2', '0 0 2 -1.0 0.0'),
+    ('imagec 2 [0.0 0.0]', '0 0'),
+    ('ask 2', '0 0 2 1.0 -2.0'),
+    ('imagec 2 [0.0 0.0]', '0 0'),
+    ('sclosec 2 [nan nan] [1.0 0.0 inf nan] p t nan p p', '53 2'),
+    ('sclosec 2 [0.0 inf] [1.0 0.0 0.0 1.0] t nan p p p', '55 1'),
+    ('sclosec 2 [0.0 0.0] [1.0 0.0 0.0 -1.0] t 0.0 t nan p p', '56 1'),
+    ('sclosec 2 [0.0 0.0] [1.0 0.0 0.0 -1.0] p p p p', '8 1'),
+    ('sclosef 2 [0.0 nan] [1.0 0.0 0.0 nan]', '53 3'),
+    ('sclosef 2 [0.0 nan] [1.0 0.0 0.0 -1.0]', '55 1'),
+    ('sclosef 2 [0.0 0.0] [1.0 0.0 0.0 -1.0]', '8 1'),
+    ('sclosef 2 [0.0 0.0] [1.0 0.0 0.0 1.0]', '0 0 x 1.0 0.0 P 4.0 0.0 0.0 4.0'),
+    '# 7 with the row of the pivot; 9 in a step of each stepped close: the mean, S by either average. The call stays open',
+    ('setp [4.0 0.0 0.0 -4.0]', '0 0'),
+    ('sopenp', '7 1'),
+    ('sopenc', '7 1'),
+    ('new 1 [2.0] [4.0] [1.0] 1.0 0.0 0.0', '0 0'),
+    ('sopenp', '0 0'),
+    ('ask 1', '0 0 1 2.0'),
+    ('imagep [BIG]', '0 0'),
+    ('ask 1', '0 0 1 4.0'),
+    ('imagep [-BIG]', '0 0'),
+    ('ask 1', '0 0 1 0.0'),
+    ('imagep [0.0]', '0 0'),
+    ('sclosep', '9 0'),
+    ('sclosep', '9 0'),
+    ('abandon', '0 0'),
+    ('sopenc', '0 0'),
+    ('ask 1', '0 0 1 2.0'),
+    ('imagec 1 [0.0]', '0 0'),
+    ('ask 1', '0 0 1 4.0'),
+    ('imagec 1 [HUGE]', '0 0'),
+    ('ask 1', '0 0 1 0.0'),
+    ('imagec 1 [-HUGE]', '0 0'),
+    ('sclosec 1 [3.0] [12.0] p p p p', '9 0'),
+    ('sclosef 1 [3.0] [12.0]', '9 0'),
+    ('dump', '0 0 n 1 x 2.0 P 4.0 Q 1.0 par 1.0 0.0 0.0 kinds p w 0.0 0.0 pts 0.0 0.0 0.0 stale 1 open c dw 0.0 0.5 dpts 2.0 4.0 0.0 way s at 3 asked 0 m 1 img 0.0 HUGE -HUGE'),
+    '# no call: what has too much or too little; nothing changes',
+    ('sopenp 3', 'bad'),
+    ('ask', 'bad'),
+    ('imagep', 'bad'),
+    ('imagec [2.0]', 'bad'),
+    ('sclosep []', 'bad'),
+    ('sclosec 1 [3.0] [12.0]', 'bad'),
+    ('sclosef 1 [3.0] [12.0] p p p p', 'bad'),
+    ('abandon', '0 0'),
+]
+
 PLACES = [
     '# where the bad number is (A5). New searches x, P, Q, then alpha, beta, kappa: the first bad number of the first bad slice, and before 6 (kappa -2)',
     ('new 2 [nan 2.0] [4.0 0.0 0.0 4.0] [1.0 0.0 0.0 1.0] 1.0 0.0 -1.0', '51 0'),
@@ -463,7 +716,7 @@ PLACES = [
     ('closec 1 [8.0] [48.0] p p p p [2.0 6.0 6.0]', '0 0 x 1.75 P 3.0'),
 ]
 
-CALLS = FIRST + FLAT + TURN + FLAT_TURN + VALUES + FLAT_OF_TWO + PLACES
+CALLS = FIRST + FLAT + TURN + FLAT_TURN + VALUES + FLAT_OF_TWO + STEPS + PLACES
 
 # Request A4. Side 1 mostly has x=2, P=4 and draws 2, 4, 0; side 2 has x=6, P=1 and draws 6, 7, 5.
 PAIRS = [
@@ -615,6 +868,32 @@ PAIRS = [
     ('@2 closef 1 [14.0] [10.0] [6.0 9.0 3.0]', '0 0 x 7.0 P 0.75'),
     ('@1 setq [1.0]', '0 0'),
     ('@2 setkind 0 p', '0 0'),
+    '# a stepped call on side 1, then on both, then on side 2 alone (A7): the sheet waits at every step, through either side; each side answers by its own steps alone',
+    ('@1 sopenp', '0 0'),
+    ('@2 setq []', '3 0'),
+    ('@2 setpar 1.0 0.0 -1.0', '3 0'),
+    ('@1 setkind 7 t nan', '3 0'),
+    ('@2 ask 1', '3 0 1 b0'),
+    ('@2 imagep [6.0]', '3 0'),
+    ('@2 setp [1.0]', '0 0'),
+    ('@1 ask 1', '0 0 1 2.0'),
+    ('@2 sopenc', '0 0'),
+    ('@2 imagec 1 [6.0]', '3 0'),
+    ('@2 setkind 0 p', '3 0'),
+    ('@1 imagec 1 [6.0]', '3 0'),
+    ('@2 ask 1', '0 0 1 7.0'),
+    ('@1 imagep [2.0]', '0 0'),
+    ('@2 imagec 1 [7.0]', '0 0'),
+    ('@1 setq [1.0]', '3 0'),
+    ('@1 dump', '0 0 n 1 x 2.0 P 4.0 Q 1.0 par 1.0 0.0 0.0 kinds p w 0.0 0.5 pts 2.0 4.0 0.0 stale 1 open p dw 0.0 0.5 dpts 2.0 4.0 0.0 way s at 1 asked 0 m 0 img 2.0'),
+    ('@2 dump', '0 0 n 1 x 7.0 P 1.0 Q 1.0 par 1.0 0.0 0.0 kinds p w 0.0 0.5 pts 6.0 7.0 5.0 stale 1 open c dw 0.0 0.5 dpts 7.0 8.0 6.0 way s at 1 asked 0 m 1 img 7.0'),
+    ('@1 abandon', '0 0'),
+    ('@1 setpar 1.0 0.0 0.0', '3 0'),
+    ('@2 ask 1', '0 0 1 8.0'),
+    ('@1 setkind 7 t nan', '3 0'),
+    ('@2 abandon', '0 0'),
+    ('@2 setp [0.75]', '0 0'),
+    ('@1 setq [1.0]', '0 0'),
     '# the solo filter stands beside the pair: neither its New, taken or refused, nor its calls touch a side',
     ('new 0 [] [] [] 1.0 0.0 0.0', '1 0'),
     ('new 1 [3.0] [4.0] [8.0] 1.0 2.0 1.0', '0 0'),
@@ -662,19 +941,31 @@ SIDE = [
 ]
 
 
+# What the f32 filter has not got.
+WIDE = ('closef', 'sopenp', 'sopenc', 'ask', 'imagep', 'imagec', 'sclosep', 'sclosec', 'sclosef')
+
+
 def on_narrow(calls):
-    """The calls as calls on the f32 filter, which has no flat close. Comments are left out."""
+    """The calls as calls on the f32 filter, as far as it has them. Comments are left out."""
     for line, answer in (call for call in calls if not isinstance(call, str)):
-        if not line.startswith('closef'):
+        if line.partition(' ')[0] not in WIDE:
             yield '@w ' + line, answer
 
 
 # Request A6; numbers are f32s in these lines and their answers.
 NARROW = [
-    '# all calls of the solo filter above but the flat closes once more on the f32 filter, from the empty one on; the answers are the same, at its width',
+    '# all calls of the solo filter above but the flat closes and the stepped calls once more on the f32 filter, from the empty one on; the answers are the same, at its width',
     *on_narrow(FIRST + TURN + VALUES + PLACES),
     '# no call: what the f32 filter has not got, a call of nobody, two at once, and numbers that are not 8 digits long; nothing changes',
     ('@w closef 1 [6.0] [10.0] [2.0 5.0 -1.0]', 'bad'),
+    ('@w sopenp', 'bad'),
+    ('@w sopenc', 'bad'),
+    ('@w ask 1', 'bad'),
+    ('@w imagep [2.0]', 'bad'),
+    ('@w imagec 1 [2.0]', 'bad'),
+    ('@w sclosep', 'bad'),
+    ('@w sclosec 1 [3.0] [12.0] p p p p', 'bad'),
+    ('@w sclosef 1 [3.0] [12.0]', 'bad'),
     ('@w newpair 1 [2.0] [4.0] [6.0] [1.0] [1.0] 1.0 0.0 0.0', 'bad'),
     ('@w', 'bad'),
     ('@wdump', 'bad'),
@@ -725,6 +1016,13 @@ def written(line, digits):
     return ' '.join(out)
 
 
+def without_steps(answer):
+    """What an f64 dump ends with where it says nothing of steps: no call is open, or one that went the whole-list way."""
+    if ' open ' not in answer or ' way ' in answer:
+        return ''
+    return f' way {"-" if " open - " in answer else "w"} at 0 asked 0 m 0 img'
+
+
 if __name__ == '__main__':
     with open(sys.argv[1], 'w') as script, open(sys.argv[2], 'w') as answers:
         for calls, digits in ((CALLS + PAIRS + SIDE, 16), (NARROW, 8), (OTHERS, 16)):
@@ -733,4 +1031,5 @@ if __name__ == '__main__':
                     script.write(call + '\n')
                 else:
                     script.write(written(call[0], digits) + '\n')
-                    answers.write(written(call[1], digits) + '\n')
+                    answer = call[1] + (without_steps(call[1]) if digits == 16 else '')
+                    answers.write(written(answer, digits) + '\n')

@@ -17,22 +17,24 @@ impl<T: Float, const ROWS: usize, const COLS: usize> Grid<T, ROWS, COLS> {
 
     /// From numbers row by row.
     pub fn from_rows(numbers: &[T]) -> Self {
-        Self::filled(|i, j| numbers[i * COLS + j])
-    }
-
-    /// From numbers column by column: a point list, point after point.
-    pub fn from_points(numbers: &[T]) -> Self {
-        Self::filled(|i, j| numbers[j * ROWS + i])
-    }
-
-    fn filled(number: impl Fn(usize, usize) -> T) -> Self {
         let mut grid = Self::zero();
         for i in 0..ROWS {
             for j in 0..COLS {
-                grid.0[i][j] = number(i, j);
+                grid.0[i][j] = numbers[i * COLS + j];
             }
         }
         grid
+    }
+
+    /// Column k: a point, where columns are points.
+    pub fn point(&self, k: usize) -> impl Iterator<Item = T> + '_ {
+        self.0.iter().map(move |row| row[k])
+    }
+
+    pub fn set_point(&mut self, k: usize, point: &[T]) {
+        for (row, number) in self.0.iter_mut().zip(point) {
+            row[k] = *number;
+        }
     }
 
     /// The numbers row by row.
@@ -40,9 +42,9 @@ impl<T: Float, const ROWS: usize, const COLS: usize> Grid<T, ROWS, COLS> {
         self.0.as_flattened().to_vec()
     }
 
-    /// The numbers column by column.
+    /// The numbers column by column: a point list, point after point.
     pub fn points(&self) -> Vec<T> {
-        (0..COLS).flat_map(|j| (0..ROWS).map(move |i| self.0[i][j])).collect()
+        (0..COLS).flat_map(|k| self.point(k)).collect()
     }
 }
 

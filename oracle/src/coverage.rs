@@ -1,13 +1,14 @@
-//! What scripts should meet. On the solo filter and on the f32 filter: every number that a call can give, every stage and step that can stop it,
+//! What scripts should meet. On the solo filter and on the f32 filter: every number that a call can give, every call in every stage, every step that can stop it,
 //! what its place can be told among (of New of a pair too), every setting on stale points and on points in use, every size. On a pair: every number,
 //! every change of its sheet through either side with whatever points and open calls, and every other call on a side with whatever its partner has open.
 
-use crate::filter::Open;
 use crate::pair::Side;
-use crate::places::{self, AFTER_PARAM, AFTER_PLAIN, SECOND, SEVERAL, SPOTS};
+use crate::places::{self, AFTER_PARAM, AFTER_PLAIN, NO_M, OTHER_M, SECOND, SEVERAL, SPOTS};
 use crate::script::{
-    before, named, on_points, through, with_partner, On, Table, BOTH_OPEN, IN_USE, OWN_OPEN, PARTNER_OPEN, SETTERS, SHEET, STALE,
+    before, is_wide, named, on_points, through, with_partner, On, Table, BOTH_OPEN, IN_USE, OWN_OPEN, OWN_STEPPED, PARTNER_OPEN,
+    PARTNER_STEPPED, SETTERS, SHEET, STALE,
 };
+use crate::stages::{Stage, OPENS, STEPPED};
 
 /// The calls that make a filter or a pair and those on values, with the numbers that they can give in a script.
 const APART: [(&str, &[u8]); 5] = [
@@ -18,8 +19,8 @@ const APART: [(&str, &[u8]); 5] = [
     ("root", &[0, 56]),
 ];
 
-/// The calls on a filter, be it a side. (Opening never gives 6; on the empty filter abandon and closes give 3.)
-const ON_FILTER: [(&str, &[u8]); 18] = [
+/// The calls on a filter, be it a side. (Opening never gives 6; on the empty filter abandon, closes, asking and images give 3.)
+const ON_FILTER: [(&str, &[u8]); 26] = [
     ("setx", &[0, 1, 2, 3, 51]),
     ("setp", &[0, 1, 2, 3, 52]),
     ("setq", &[0, 1, 2, 3, 53]),
@@ -31,6 +32,14 @@ const ON_FILTER: [(&str, &[u8]); 18] = [
     ("closep", &[0, 2, 3, 54, 9]),
     ("closec", &[0, 1, 2, 3, 53, 54, 55, 56, 6, 8, 9]),
     ("closef", &[0, 1, 2, 3, 53, 54, 55, 8, 9, 10]),
+    ("sopenp", &[0, 1, 3, 7, 9]),
+    ("sopenc", &[0, 1, 3, 7, 9]),
+    ("ask", &[0, 2, 3]),
+    ("imagep", &[0, 2, 3, 54]),
+    ("imagec", &[0, 1, 2, 3, 54]),
+    ("sclosep", &[0, 3, 9]),
+    ("sclosec", &[0, 1, 2, 3, 53, 55, 56, 6, 8, 9]),
+    ("sclosef", &[0, 1, 2, 3, 53, 55, 8, 9, 10]),
     ("readx", &[0, 1, 2]),
     ("readp", &[0, 1, 2]),
     ("readq", &[0, 1, 2]),
@@ -46,37 +55,64 @@ pub const EVERYONE: [On; 3] = [On::Solo, On::Narrow, On::Side(Side::One)];
 /// The filters that are no side. What is to be met of their calls is the same.
 pub const ALONE: [On; 2] = [On::Solo, On::Narrow];
 
-/// Whether there is such a call: the f32 filter has no flat close (request A6), and of the calls that are on no filter a pair has its New alone.
+/// Whether there is such a call: the f32 filter has no flat close and no steps (request A6), and of the calls that are on no filter a pair has its New alone.
 pub fn has(on: On, call: &str) -> bool {
     match on {
         On::Solo => call != "newpair",
-        On::Narrow => !["newpair", "closef"].contains(&call),
+        On::Narrow => call != "newpair" && !is_wide(call.as_bytes()),
         On::Side(_) => call == "newpair" || APART.iter().all(|(apart, _)| *apart != call),
     }
 }
 
 /// The numbers of every call, by its name in the table.
 pub fn numbers() -> impl Iterator<Item = (String, &'static [u8])> {
-    EVERYONE.into_iter().flat_map(numbers_on)
+    EVERYONE.into_iter().flat_map(|on| numbers_on(on).map(move |(call, numbers)| (named(on, call), numbers)))
 }
 
-fn numbers_on(on: On) -> impl Iterator<Item = (String, &'static [u8])> {
-    let calls = APART.iter().chain(&ON_FILTER).filter(move |(call, _)| has(on, call));
-    calls.map(move |(call, numbers)| (named(on, call), *numbers))
+fn numbers_on(on: On) -> impl Iterator<Item = (&'static str, &'static [u8])> {
+    APART.into_iter().chain(ON_FILTER).filter(move |(call, _)| has(on, call))
 }
 
-/// The stages and steps in which a call can stop, in running order.
-pub const STEPS: [(&str, &[(u8, &str)]); 5] =
-    [("openp", &OPEN), ("openc", &OPEN), ("closep", &PREDICTION), ("closec", &CORRECTION), ("closef", &CORRECTION)];
+/// The calls that have their place in some stages only: all on a filter but readings.
+pub fn staged(on: On) -> impl Iterator<Item = &'static str> {
+    let calls = ON_FILTER.into_iter().map(|(call, _)| call);
+    calls.filter(move |call| has(on, call) && !call.starts_with("read") && *call != "dump")
+}
+
+/// The stages of a filter: at f32 there are no stepped calls.
+pub fn stages(on: On) -> impl Iterator<Item = Stage> {
+    Stage::all().filter(move |stage| on != On::Narrow || !stage.open.is_stepped())
+}
+
+/// How often a call gave in this stage what it gives there, 0 or 3; but accepted settings and closes, which are told by points and by sizes.
+pub fn in_stage(table: &Table, on: On, call: &str, stage: Stage) -> Option<u64> {
+    let fits = stage.fits(call);
+    if fits && (SETTERS.contains(&call) || call.contains("close")) {
+        return None;
+    }
+    Some(count_with(table, &named(on, call), if fits { 0 } else { 3 }, &stage.name()))
+}
+
+/// The steps in which a call can stop, in running order.
+pub const STEPS: [(&str, &[(u8, &str)]); 10] = [
+    ("openp", &OPEN),
+    ("openc", &OPEN),
+    ("closep", &PREDICTION),
+    ("closec", &CORRECTION),
+    ("closef", &CORRECTION),
+    ("sopenp", &OPEN),
+    ("sopenc", &OPEN),
+    ("sclosep", &PREDICTION),
+    ("sclosec", &CORRECTION),
+    ("sclosef", &CORRECTION),
+];
 
 const OPEN: [(u8, &str); 3] = [(7, "P's pivot"), (9, "P's factor entry"), (9, "points")];
 
-const PREDICTION: [(u8, &str); 4] = [(3, Open::Nothing.name()), (3, Open::Correction.name()), (9, "mean"), (9, "P")];
+const PREDICTION: [(u8, &str); 2] = [(9, "mean"), (9, "P")];
 
 /// Weighted or flat, the order is one.
-const CORRECTION: [(u8, &str); 13] = [
-    (3, Open::Nothing.name()),
-    (3, Open::Prediction.name()),
+const CORRECTION: [(u8, &str); 11] = [
     (9, "z mean"),
     (9, "S"),
     (9, "x mean"),
@@ -91,7 +127,7 @@ const CORRECTION: [(u8, &str); 13] = [
 ];
 
 /// The slices that a call searches for bad numbers, by their numbers and in that order; but those of one number.
-const SEARCHED: [(&str, &[u8]); 9] = [
+const SEARCHED: [(&str, &[u8]); 13] = [
     ("new", &[51, 52, 53, 56]),
     ("newpair", &[51, 52, 51, 52, 53, 56]),
     ("setx", &[51]),
@@ -101,6 +137,10 @@ const SEARCHED: [(&str, &[u8]); 9] = [
     ("closep", &[54]),
     ("closec", &[53, 54, 55, 56]),
     ("closef", &[53, 54, 55]),
+    ("imagep", &[54]),
+    ("imagec", &[54]),
+    ("sclosec", &[53, 55, 56]),
+    ("sclosef", &[53, 55]),
 ];
 
 /// The calls whose searches are to be shown, each with its slices; of a pair's New alone, since a side searches as a filter does.
@@ -113,7 +153,33 @@ pub fn slices_of(call: &str) -> &'static [u8] {
 }
 
 /// The calls that tell the row of a pivot, and how many rows there can be.
-pub const PIVOTS: [(&str, u8, usize); 4] = [("openp", 7, 8), ("openc", 7, 8), ("closec", 8, 4), ("closef", 8, 4)];
+pub const PIVOTS: [(&str, u8, usize); 8] = [
+    ("openp", 7, 8),
+    ("openc", 7, 8),
+    ("closec", 8, 4),
+    ("closef", 8, 4),
+    ("sopenp", 7, 8),
+    ("sopenc", 7, 8),
+    ("sclosec", 8, 4),
+    ("sclosef", 8, 4),
+];
+
+/// What a stepped call can be refused by before its steps, in that order.
+pub const ORDER: [(&str, &[u8]); 5] = [
+    ("ask", &[3, 2]),
+    ("imagep", &[3, 2, 54]),
+    ("imagec", &[3, 1, 2, 54]),
+    ("sclosec", &[3, 1, 2, 53, 55, 56, 6]),
+    ("sclosef", &[3, 1, 2, 53, 55, 10]),
+];
+
+/// What can have to wait where a stepped call gives 3, 1 or 2, and what can be wrong with its m.
+pub fn waiting(call: &str, number: u8) -> Vec<String> {
+    let order = ORDER.iter().find(|(stepped, _)| *stepped == call).map_or(&[][..], |(_, order)| *order);
+    let later = order.iter().skip_while(|other| **other != number).skip(1).map(|later| places::before(*later));
+    let sizes = [NO_M, OTHER_M].iter().filter(|_| number == 1 && order.contains(&1)).map(|word| word.to_string());
+    later.chain(sizes).collect()
+}
 
 /// What the answer of a call can show of its search when it gives one of these numbers.
 pub fn searches(call: &str, number: u8) -> Vec<String> {
@@ -123,13 +189,13 @@ pub fn searches(call: &str, number: u8) -> Vec<String> {
     if later.contains(&number) {
         words.push(SECOND.into());
     }
-    if (call, number) == ("closec", 56) {
+    if number == 56 && with_kinds(call) {
         words.extend([AFTER_PLAIN.into(), AFTER_PARAM.into()]);
     }
     words.extend((51..=56).filter(|other| later.contains(other)).map(places::before));
     match call {
-        "closef" => words.push(places::before(10)),
-        "new" | "newpair" | "closec" if number != 56 => words.push(places::before(6)),
+        "closef" | "sclosef" => words.push(places::before(10)),
+        "new" | "newpair" | "closec" | "sclosec" if number != 56 => words.push(places::before(6)),
         _ => {}
     }
     words
@@ -137,11 +203,20 @@ pub fn searches(call: &str, number: u8) -> Vec<String> {
 
 /// The slices that can be longer than a call needs: all but the parameters. The kinds are four, of which a close needs m.
 pub fn with_rest(call: &str, number: u8) -> bool {
-    number != 56 || call == "closec"
+    number != 56 || with_kinds(call)
 }
 
+/// The closes that are given the kinds of a measurement.
+pub fn with_kinds(call: &str) -> bool {
+    ["closec", "sclosec"].contains(&call)
+}
+
+/// The closes of a prediction, each met with every n.
+pub const PREDICTIONS: [(&str, &str); 2] = [("closep", "prediction"), ("sclosep", "stepped prediction")];
+
 /// The closes of a correction, each met with every n and m.
-pub const CORRECTIONS: [(&str, &str); 2] = [("closec", "correction"), ("closef", "flat correction")];
+pub const CORRECTIONS: [(&str, &str); 4] =
+    [("closec", "correction"), ("closef", "flat correction"), ("sclosec", "stepped correction"), ("sclosef", "stepped flat correction")];
 
 /// How often a call gave such a number with such words beside it.
 fn sum(table: &Table, call: &str, fits: impl Fn(u8, &str) -> bool) -> u64 {
@@ -169,13 +244,10 @@ pub fn refused_with(table: &Table, call: &str, points: &str) -> u64 {
     sum(table, call, |n, m| ![0, 3].contains(&n) && m == points)
 }
 
-/// The stages of a partner.
-pub const STAGES: [Open; 3] = [Open::Nothing, Open::Prediction, Open::Correction];
-
-/// How often calls on a side, but for sheet changes, were accepted with each stage of the partner.
-pub fn beside_partner(table: &Table) -> impl Iterator<Item = (String, [u64; 3])> + '_ {
+/// How often calls on a side, but for sheet changes, were accepted with each thing that the partner can have open.
+pub fn beside_partner(table: &Table) -> impl Iterator<Item = (String, [u64; 5])> + '_ {
     let calls = ON_FILTER.iter().filter(|(call, _)| !SHEET.contains(call)).map(|(call, _)| named(On::Side(Side::One), call));
-    calls.map(|call| (call.clone(), STAGES.map(|open| count_with(table, &call, 0, &with_partner(open)))))
+    calls.map(|call| (call.clone(), OPENS.map(|open| count_with(table, &call, 0, &with_partner(open)))))
 }
 
 /// How often a sheet change came through this side: accepted, by the points of both, and refused by 3, by whose call was open.
@@ -185,7 +257,8 @@ pub fn sheet_changes(table: &Table, call: &str, side: Side) -> Vec<(String, u64)
         let met = on_points(own, partner);
         (format!("accepted, {met}"), count_with(table, &call, 0, &through(side, &met)))
     });
-    let waits = [OWN_OPEN, PARTNER_OPEN, BOTH_OPEN].map(|met| (met.to_string(), count_under(table, &call, 3, &through(side, met))));
+    let waits = [OWN_OPEN, OWN_STEPPED, PARTNER_OPEN, PARTNER_STEPPED, BOTH_OPEN];
+    let waits = waits.map(|met| (met.to_string(), count_under(table, &call, 3, &through(side, met))));
     accepted.into_iter().chain(waits).collect()
 }
 
@@ -204,28 +277,34 @@ pub fn faulty_changes(table: &Table, call: &str) -> Vec<(String, u64)> {
     });
     let numbers = FAULTS.iter().filter(|(setter, _)| *setter == call).flat_map(|(_, numbers)| *numbers);
     let first = numbers.map(|number| {
-        let met = |side| before(&through(side, PARTNER_OPEN), Some(*number));
-        (before(PARTNER_OPEN, Some(*number)), either(&|side| count_with(table, &name, 3, &met(side))))
+        let met = |side, open| count_with(table, &name, 3, &before(&through(side, open), Some(*number)));
+        (before(PARTNER_OPEN, Some(*number)), either(&|side| met(side, PARTNER_OPEN) + met(side, PARTNER_STEPPED)))
     });
     refused.into_iter().chain(first).collect()
 }
 
-/// What of request A5 was not met by refused calls: what a search can show, rows.
-fn place_holes(places: &Table, on: On) -> Vec<String> {
+/// What of requests A5 and A7 was not met by refused calls: what a search can show, rows, what had to wait.
+fn place_holes(places: &Table, on: On, stepping: bool) -> Vec<String> {
     let mut wanted = Vec::new();
     for (call, number) in slices_on(on) {
-        wanted.extend(searches(call, number).into_iter().map(|word| (named(on, call), number, word)));
+        wanted.extend(searches(call, number).into_iter().map(|word| (call, number, word)));
     }
-    for (call, number, rows) in PIVOTS.iter().filter(|(call, ..)| has(on, call) && ALONE.contains(&on)) {
-        wanted.extend((0..*rows).map(|row| (named(on, call), *number, places::row(row))));
+    if ALONE.contains(&on) {
+        for (call, number, rows) in PIVOTS {
+            wanted.extend((0..rows).map(|row| (call, number, places::row(row))));
+        }
+        for (call, number) in ORDER.iter().flat_map(|(call, _)| [3, 1, 2].map(|number| (*call, number))) {
+            wanted.extend(waiting(call, number).into_iter().map(|word| (call, number, word)));
+        }
     }
-    unmet(places, wanted)
+    wanted.retain(|(call, ..)| has(on, call) && is_stepping(call) == stepping);
+    unmet(places, on, wanted)
 }
 
 /// And by accepted ones: bad numbers past what is needed.
 fn past_holes(places: &Table, on: On) -> Vec<String> {
     let slices = slices_on(on).filter(|(call, number)| with_rest(call, *number));
-    unmet(places, slices.map(|(call, number)| (named(on, call), 0, places::past(number))).collect())
+    unmet(places, on, slices.map(|(call, number)| (call, 0, places::past(number))).collect())
 }
 
 /// The slices whose searches are to be shown, each once.
@@ -233,23 +312,37 @@ fn slices_on(on: On) -> impl Iterator<Item = (&'static str, u8)> {
     searching(on).flat_map(|(call, numbers)| (51..=56).filter(|number| numbers.contains(number)).map(move |number| (call, number)))
 }
 
-fn unmet(places: &Table, wanted: Vec<(String, u8, String)>) -> Vec<String> {
-    let unmet = wanted.into_iter().filter(|(call, number, word)| count_with(places, call, *number, word) == 0);
+fn unmet(places: &Table, on: On, wanted: Vec<(&str, u8, String)>) -> Vec<String> {
+    let wanted = wanted.into_iter().map(|(call, number, word)| (named(on, call), number, word));
+    let unmet = wanted.filter(|(call, number, word)| count_with(places, call, *number, word) == 0);
     unmet.map(|(call, number, word)| format!("{call}: {number} {word}")).collect()
 }
 
-/// The numbers that were not met, of steps or of what comes before them.
-fn number_holes(table: &Table, on: On, of_steps: bool) -> Vec<String> {
-    let all = numbers_on(on).flat_map(|(call, numbers)| numbers.iter().map(move |number| (call.clone(), *number)));
-    let unmet = all.filter(|(call, number)| matches!(number, 7..=9) == of_steps && count(table, call, *number) == 0);
-    unmet.map(|(call, number)| format!("{call}: {number}")).collect()
+/// Whether a call comes about in stepped calls that are open; their opens come about wherever others do.
+fn is_stepping(call: &str) -> bool {
+    STEPPED.contains(&call) && !call.starts_with("sopen")
 }
 
-/// The stages or the steps that were not met, of a filter that is no side.
-fn step_holes(table: &Table, on: On, stages: bool) -> Vec<String> {
+/// The numbers that were not met, of calls like this.
+fn number_holes(table: &Table, on: On, wanted: impl Fn(&str, u8) -> bool) -> Vec<String> {
+    let all = numbers_on(on).flat_map(|(call, numbers)| numbers.iter().map(move |number| (call, *number)));
+    let unmet = all.filter(|(call, number)| wanted(call, *number) && count(table, &named(on, call), *number) == 0);
+    unmet.map(|(call, number)| format!("{}: {number}", named(on, call))).collect()
+}
+
+/// The steps that were not met, of a filter that is no side.
+fn step_holes(table: &Table, on: On) -> Vec<String> {
     let all = STEPS.iter().filter(|(call, _)| has(on, call)).flat_map(|(call, steps)| steps.iter().map(|step| (named(on, call), *step)));
-    let unmet = all.filter(|(call, (number, step))| (*number == 3) == stages && count_with(table, call, *number, step) == 0);
+    let unmet = all.filter(|(call, (number, step))| count_with(table, call, *number, step) == 0);
     unmet.map(|(call, (number, step))| format!("{call}: {number} in {step}")).collect()
+}
+
+/// The stages that were not met, of a filter that is no side.
+fn stage_holes(table: &Table, on: On, stepping: bool) -> Vec<String> {
+    let all = staged(on).flat_map(|call| stages(on).map(move |stage| (call, stage)));
+    let all = all.filter(|(call, stage)| (stage.open.is_stepped() || STEPPED.contains(call)) == stepping);
+    let unmet = all.filter(|(call, stage)| in_stage(table, on, call, *stage) == Some(0));
+    unmet.map(|(call, stage)| format!("{} with {}", named(on, call), stage.name())).collect()
 }
 
 /// What was not met of the settings and sizes of a filter that is no side.
@@ -263,7 +356,7 @@ fn round_holes(table: &Table, on: On) -> Vec<String> {
             holes.push(format!("{call} refused, points {points}"));
         }
     }
-    let predictions = (1..=8).map(|n| ("closep", format!("n={n}")));
+    let predictions = (1..=8).flat_map(|n| PREDICTIONS.map(|(call, _)| (call, format!("n={n}"))));
     let sizes = (1..=8).flat_map(|n| (1..=4).map(move |m| format!("n={n} m={m}")));
     let corrections = sizes.flat_map(|size| CORRECTIONS.map(|(call, _)| (call, size.clone())));
     for (call, size) in predictions.chain(corrections).filter(|(call, _)| has(on, call)) {
@@ -279,7 +372,7 @@ fn round_holes(table: &Table, on: On) -> Vec<String> {
 fn side_holes(table: &Table) -> Vec<String> {
     let mut holes = Vec::new();
     for (call, counts) in beside_partner(table) {
-        let unmet = STAGES.iter().zip(counts).filter(|(_, count)| *count == 0);
+        let unmet = OPENS.iter().zip(counts).filter(|(_, count)| *count == 0);
         holes.extend(unmet.map(|(open, _)| format!("{call} accepted, {}", with_partner(*open))));
     }
     for (call, side) in SHEET.iter().flat_map(|call| Side::BOTH.map(|side| (call, side))) {
@@ -293,29 +386,35 @@ fn side_holes(table: &Table) -> Vec<String> {
     holes
 }
 
-/// What was not met of one of those on whom calls are made, by what leads to it: refused calls, steps that stop, rounds as a user has them.
+/// What was not met of one of those on whom calls are made, by what leads to it: refused calls, steps that stop, rounds as a user has them,
+/// stepped calls with all that doesn't fit on the way.
 pub struct Holes {
     pub refusals: Vec<String>,
     pub steps: Vec<String>,
     pub rounds: Vec<String>,
+    pub stepping: Vec<String>,
 }
 
 /// What was not met by the two tables of a reader: of the solo filter, of the f32 filter, of pairs.
 pub fn holes(table: &Table, places: &Table) -> [Holes; 3] {
     EVERYONE.map(|on| {
-        let (steps, rounds) = match on {
-            On::Side(_) => (vec![], side_holes(table)),
-            _ => (step_holes(table, on, false), [step_holes(table, on, true), round_holes(table, on)].concat()),
+        let of_steps = |number: u8| matches!(number, 7..=9);
+        let (steps, rounds, stages) = match on {
+            On::Side(_) => (vec![], side_holes(table), vec![]),
+            _ => (step_holes(table, on), [stage_holes(table, on, false), round_holes(table, on)].concat(), stage_holes(table, on, true)),
         };
+        let faces = |stepping| number_holes(table, on, |call, number| !of_steps(number) && is_stepping(call) == stepping);
         Holes {
-            refusals: [number_holes(table, on, false), place_holes(places, on)].concat(),
-            steps: [number_holes(table, on, true), steps].concat(),
+            refusals: [faces(false), place_holes(places, on, false)].concat(),
+            steps: [number_holes(table, on, |_, number| of_steps(number)), steps].concat(),
             rounds: [rounds, past_holes(places, on)].concat(),
+            stepping: [faces(true), place_holes(places, on, true), stages].concat(),
         }
     })
 }
 
 /// All that was not met.
 pub fn not_met(table: &Table, places: &Table) -> Vec<String> {
-    holes(table, places).into_iter().flat_map(|holes| [holes.refusals, holes.steps, holes.rounds].concat()).collect()
+    let all = holes(table, places).into_iter();
+    all.flat_map(|holes| [holes.refusals, holes.steps, holes.rounds, holes.stepping].concat()).collect()
 }

@@ -3,23 +3,31 @@
 
 use crate::float::Float;
 use crate::kinds::{is_half_turn, Kind};
-use crate::published::{self, Measurement, Published};
+use crate::published::{self, Drawn, Measurement, Published};
 use crate::refusal::{Refusal, Slice};
+use crate::stepped::Kept;
 use crate::steps::{self, Average, Correction, Params, Prediction, Weights};
 
+/// How an open call goes on: with the whole list of points, or one point at a time (request A7).
+#[derive(Clone, Copy, Debug, PartialEq)]
+pub enum Way {
+    Whole,
+    Stepped,
+}
+
+/// What is open. A close names what it fits, so that one of the other way is refused like one of the other stage.
 #[derive(Clone, Copy, Debug, PartialEq)]
 pub enum Open {
     Nothing,
-    Prediction,
-    Correction,
+    Prediction(Way),
+    Correction(Way),
 }
 
 impl Open {
-    pub const fn name(self) -> &'static str {
+    pub const fn way(self) -> Option<Way> {
         match self {
-            Open::Nothing => "nothing open",
-            Open::Prediction => "prediction open",
-            Open::Correction => "correction open",
+            Open::Nothing => None,
+            Open::Prediction(way) | Open::Correction(way) => Some(way),
         }
     }
 }
@@ -55,7 +63,7 @@ fn search<T: Float>(slice: Slice, numbers: &[T]) -> Result<(), Refusal> {
 }
 
 /// Bit for bit. What is compared is finite, so that no NaN patterns come into it.
-fn alike<T: Float>(what: &str, ours: &[T], rust: &[T]) -> Result<(), Trouble> {
+pub(crate) fn alike<T: Float>(what: &str, ours: &[T], rust: &[T]) -> Result<(), Trouble> {
     if ours.len() == rust.len() && ours.iter().zip(rust).all(|(a, b)| a.bits() == b.bits()) {
         return Ok(());
     }
@@ -88,6 +96,8 @@ pub struct Filter<T> {
     pub open: Open,
     pub drawn_weights: [T; 2],
     pub drawn_points: Vec<T>,
+    /// What a stepped call keeps besides; scratch too.
+    pub kept: Kept<T>,
     /// The published filter, which runs at each accepted close; none in the empty filter.
     rust: Option<Box<dyn Published<T>>>,
 }
@@ -107,6 +117,7 @@ impl<T: Float> Filter<T> {
             open: Open::Nothing,
             drawn_weights: [T::ZERO; 2],
             drawn_points: vec![],
+            kept: Kept::default(),
             rust: None,
         }
     }
@@ -135,12 +146,12 @@ impl<T: Float> Filter<T> {
         self.rust.as_deref_mut().expect("a filter with states has its published filter")
     }
 
-    fn sized(&self) -> Result<usize, Refusal> {
+    pub(crate) fn sized(&self) -> Result<usize, Refusal> {
         states(self.n as u64)
     }
 
-    /// The checks that all setters begin with.
-    fn settable(&self) -> Result<usize, Refusal> {
+    /// The checks that all setters and opens begin with.
+    pub(crate) fn settable(&self) -> Result<usize, Refusal> {
         refuse_if(self.open != Open::Nothing, Refusal::Stage)?;
         self.sized()
     }
@@ -202,46 +213,58 @@ impl<T: Float> Filter<T> {
         published::new(self.n, &self.x, &self.p, &self.q, self.par)
     }
 
-    /// The checks that both opens begin with.
+    /// The checks that both opens with a buffer begin with.
     fn openable(&self, buffer: &[T]) -> Result<usize, Refusal> {
         let n = self.settable()?;
         refuse_if(buffer.len() < list_length(n), Refusal::Short)?;
         Ok(n)
     }
 
-    /// Keeps what was drawn and writes it out.
-    fn opened(&mut self, open: Open, points: Vec<T>, weights: [T; 2], buffer: &mut [T]) {
-        buffer[..points.len()].copy_from_slice(&points);
+    /// Points and weights drawn afresh, as the published Rust drew them for this.
+    fn draw(&self, what: &str, drawn: impl FnOnce(Box<dyn Published<T>>, &[T]) -> Drawn<T>) -> Result<Drawn<T>, Trouble> {
+        let weights = Weights::of(self.n, self.par);
+        let points = steps::draw(self.n, &self.x, &self.p, weights.total)?;
+        let drawn = drawn(self.twin(), &points);
+        alike(&format!("points drawn for a {what}"), &points, &drawn.points)?;
+        alike(&format!("weights of a {what}"), &all_weights(self.n, [weights.w0c, weights.wi]), &drawn.weights)?;
+        Ok(drawn)
+    }
+
+    /// Draws for a prediction, be it stepped.
+    pub(crate) fn begin_prediction(&mut self, way: Way) -> Result<(), Trouble> {
+        let drawn = self.draw("prediction", |mut twin, points| Drawn { points: twin.predict(points), weights: twin.weights() })?;
+        self.opened(Open::Prediction(way), drawn);
+        Ok(())
+    }
+
+    /// Draws for a correction where the points are stale, and else takes the current ones.
+    pub(crate) fn begin_correction(&mut self, way: Way) -> Result<(), Trouble> {
+        let drawn = if self.stale {
+            self.draw("correction", |twin, _| twin.refreshed())?
+        } else {
+            Drawn { points: self.points.clone(), weights: self.weights.to_vec() }
+        };
+        self.opened(Open::Correction(way), drawn);
+        Ok(())
+    }
+
+    /// Keeps what was drawn; the first two weights stand for all.
+    fn opened(&mut self, open: Open, drawn: Drawn<T>) {
         self.open = open;
-        self.drawn_points = points;
-        self.drawn_weights = weights;
+        self.drawn_points = drawn.points;
+        self.drawn_weights = [drawn.weights[0], drawn.weights[1]];
     }
 
     pub fn open_prediction(&mut self, buffer: &mut [T]) -> Result<(), Trouble> {
-        let n = self.openable(buffer)?;
-        let weights = Weights::of(n, self.par);
-        let points = steps::draw(n, &self.x, &self.p, weights.total)?;
-        let mut twin = self.twin();
-        let drawn = twin.predict(&points);
-        alike("points drawn for a prediction", &points, &drawn)?;
-        alike("weights of a prediction", &all_weights(n, [weights.w0c, weights.wi]), &twin.weights())?;
-        self.opened(Open::Prediction, drawn, [weights.w0c, weights.wi], buffer);
-        Ok(())
+        self.openable(buffer)?;
+        self.begin_prediction(Way::Whole)?;
+        written(&self.drawn_points, buffer)
     }
 
     pub fn open_correction(&mut self, buffer: &mut [T]) -> Result<(), Trouble> {
-        let n = self.openable(buffer)?;
-        if !self.stale {
-            self.opened(Open::Correction, self.points.clone(), self.weights, buffer);
-            return Ok(());
-        }
-        let weights = Weights::of(n, self.par);
-        let points = steps::draw(n, &self.x, &self.p, weights.total)?;
-        let drawn = self.twin().refreshed();
-        alike("points drawn for a correction", &points, &drawn.points)?;
-        alike("weights of a correction", &all_weights(n, [weights.w0c, weights.wi]), &drawn.weights)?;
-        self.opened(Open::Correction, drawn.points, [weights.w0c, weights.wi], buffer);
-        Ok(())
+        self.openable(buffer)?;
+        self.begin_correction(Way::Whole)?;
+        written(&self.drawn_points, buffer)
     }
 
     /// Takes x, P, points and weights from the published filter, and closes.
@@ -259,52 +282,81 @@ impl<T: Float> Filter<T> {
         self.open = Open::Nothing;
         self.drawn_points = vec![T::ZERO; list_length(self.n)];
         self.drawn_weights = [T::ZERO; 2];
+        self.kept = Kept::default();
     }
 
-    /// The checks that all closes begin with.
+    /// The points that the published Rust showed to the function it was given must be those that were drawn and, in a stepped call, those that were handed out.
+    fn shown(&self, what: &str, points: &[T]) -> Result<(), Trouble> {
+        alike(what, &self.drawn_points, points)?;
+        match self.open.way() {
+            Some(Way::Stepped) => alike("points asked for one by one", &self.kept.handed, points),
+            _ => Ok(()),
+        }
+    }
+
+    /// The checks that all closes with a list begin with.
     fn closable(&self, wanted: Open) -> Result<usize, Refusal> {
         refuse_if(self.open != wanted, Refusal::Stage)?;
         self.sized()
     }
 
     pub fn close_prediction(&mut self, propagated: &[T]) -> Result<(), Trouble> {
-        let n = self.closable(Open::Prediction)?;
-        let propagated = front(Slice::Points, propagated, list_length(n))?;
+        let n = self.closable(Open::Prediction(Way::Whole))?;
+        self.predicted(&front(Slice::Points, propagated, list_length(n))?)
+    }
+
+    /// The steps of both closes of a prediction; the published Rust is handed the images one by one.
+    pub(crate) fn predicted(&mut self, propagated: &[T]) -> Result<(), Trouble> {
+        let n = self.n;
         let [w0c, wi] = self.drawn_weights;
         let w0m = Weights::of(n, self.par).w0m;
-        let (x, p) = steps::predict(&Prediction { n, q: &self.q, kinds: &self.kinds, w0m, w0c, wi, propagated: &propagated })?;
-        let drawn = self.rust_mut().predict(&propagated);
-        alike("points drawn at a close", &self.drawn_points, &drawn)?;
+        let (x, p) = steps::predict(&Prediction { n, q: &self.q, kinds: &self.kinds, w0m, w0c, wi, propagated })?;
+        let shown = self.rust_mut().predict(propagated);
+        self.shown("points drawn at a close", &shown)?;
         alike("x after a prediction", &x, &self.rust().x())?;
         alike("P after a prediction", &p, &self.rust().p())?;
-        alike("points installed", &propagated, &self.rust().points())?;
+        alike("points installed", propagated, &self.rust().points())?;
         self.closed(false)
     }
 
-    /// What both closes of a correction begin with: 3, 1, 2, then 53, 54 and 55, which is not the order in which they are lent. No kinds yet: all plain.
+    pub fn close_correction(&mut self, m: u64, z: &[T], r: &[T], kinds: [Kind<T>; 4], observed: &[T]) -> Result<(), Trouble> {
+        self.closable(Open::Correction(Way::Whole))?;
+        self.weighted(m, z, r, kinds, observed)
+    }
+
+    pub fn close_flat(&mut self, m: u64, z: &[T], r: &[T], observed: &[T]) -> Result<(), Trouble> {
+        self.closable(Open::Correction(Way::Whole))?;
+        self.flat(m, z, r, observed)
+    }
+
+    /// What follows 3 in all closes of a correction: 1, 2, then 53, 54 and 55, which is not the order in which they are lent. No kinds yet: all plain.
     fn measured<'a>(&self, m: u64, z: &'a [T], r: &'a [T], observed: &'a [T]) -> Result<Measurement<'a, T>, Refusal> {
-        let n = self.closable(Open::Correction)?;
         refuse_if(!(1..=4).contains(&m), Refusal::Size)?;
-        let m = m as usize;
-        refuse_if(z.len() < m || r.len() < m * m || observed.len() < m * (2 * n + 1), Refusal::Short)?;
-        let (z, r, observed) = (&z[..m], &r[..m * m], &observed[..m * (2 * n + 1)]);
+        let (m, count) = (m as usize, 2 * self.n + 1);
+        refuse_if(z.len() < m || r.len() < m * m || observed.len() < m * count, Refusal::Short)?;
+        let (z, r, observed) = (&z[..m], &r[..m * m], &observed[..m * count]);
         search(Slice::Noise, r)?;
         search(Slice::Points, observed)?;
         search(Slice::Measurement, z)?;
         Ok(Measurement { m, z, r, kinds: &[Kind::Plain; 4][..m], observed })
     }
 
-    pub fn close_correction(&mut self, m: u64, z: &[T], r: &[T], kinds: [Kind<T>; 4], observed: &[T]) -> Result<(), Trouble> {
+    pub(crate) fn weighted(&mut self, m: u64, z: &[T], r: &[T], kinds: [Kind<T>; 4], observed: &[T]) -> Result<(), Trouble> {
         let with = self.measured(m, z, r, observed)?;
         let kinds = &kinds[..with.m];
         pass_kinds(kinds)?;
         self.corrected(Average::Weighted, &Measurement { kinds, ..with })
     }
 
+    /// Whether a state's kind is a turn.
+    pub fn has_turn(&self) -> bool {
+        self.kinds.iter().any(|kind| kind.half().is_some())
+    }
+
     /// Request A1: averages know no kinds, so a filter with a turn is turned away.
-    pub fn close_flat(&mut self, m: u64, z: &[T], r: &[T], observed: &[T]) -> Result<(), Trouble> {
+    pub(crate) fn flat(&mut self, m: u64, z: &[T], r: &[T], observed: &[T]) -> Result<(), Trouble> {
         let with = self.measured(m, z, r, observed)?;
-        refuse_if(self.kinds.iter().any(|kind| kind.half().is_some()), Refusal::Kind)?;
+        refuse_if(self.has_turn(), Refusal::Kind)?;
         self.corrected(Average::Flat, &with)
     }
 
@@ -326,7 +378,7 @@ impl<T: Float> Filter<T> {
             observed: with.observed,
         })?;
         let left = self.rust_mut().correct(average, with);
-        alike("points shown to the observation", &self.drawn_points, &left.shown)?;
+        self.shown("points shown to the observation", &left.shown)?;
         alike("cross covariance", &ours.c, &left.c)?;
         alike("factor of S", &ours.l, &left.l)?;
         alike("inverse of S", &ours.v, &left.v)?;
@@ -399,7 +451,7 @@ pub(crate) fn newable<T: Float>(n: u64, starts: &[Start<T>], q: &[T], par: Param
 }
 
 /// The front of a lent slice: 2 where it is short, then the slice's own number.
-fn front<T: Float>(slice: Slice, numbers: &[T], wanted: usize) -> Result<Vec<T>, Refusal> {
+pub(crate) fn front<T: Float>(slice: Slice, numbers: &[T], wanted: usize) -> Result<Vec<T>, Refusal> {
     refuse_if(numbers.len() < wanted, Refusal::Short)?;
     search(slice, &numbers[..wanted])?;
     Ok(numbers[..wanted].to_vec())
@@ -418,7 +470,7 @@ fn pass_kinds<T: Float>(kinds: &[Kind<T>]) -> Result<(), Refusal> {
     refuse_if(!halves.iter().all(|h| is_half_turn(*h)), Refusal::Param)
 }
 
-fn written<T: Float>(numbers: &[T], buffer: &mut [T]) -> Result<(), Trouble> {
+pub(crate) fn written<T: Float>(numbers: &[T], buffer: &mut [T]) -> Result<(), Trouble> {
     refuse_if(buffer.len() < numbers.len(), Refusal::Short)?;
     buffer[..numbers.len()].copy_from_slice(numbers);
     Ok(())

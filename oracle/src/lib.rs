@@ -32,4 +32,6 @@ pub mod places;
 pub mod published;
 pub mod refusal;
 pub mod script;
+pub mod stages;
+pub mod stepped;
 pub mod steps;

@@ -1,4 +1,5 @@
-//! What the place in an answer (request A5) was told among. It goes into a table of what was met; no answer comes from here.
+//! What the place in an answer (request A5) was told among, and what had to wait for the answer of a stepped call (A7). It goes into a table of what was met;
+//! no answer comes from here.
 
 use crate::float::Float;
 use crate::kinds::{is_half_turn, Kind};
@@ -16,7 +17,11 @@ pub const SECOND: &str = "second";
 pub const AFTER_PLAIN: &str = "after a plain kind";
 pub const AFTER_PARAM: &str = "after one that fails 6";
 
-/// Something had to wait: a slice that is searched later, 10 or 6.
+/// What was wrong with the m of a stepped call: it is none, or not the first image's.
+pub const NO_M: &str = "no m";
+pub const OTHER_M: &str = "another m";
+
+/// Something had to wait: a slice that is searched later, 10 or 6, and in a stepped call 1 or 2.
 pub fn before(number: u8) -> String {
     format!("before {number}")
 }
@@ -44,11 +49,14 @@ impl<T: Float> Lent<T> {
 }
 
 /// What a call searches: its slices in that order, the kinds of its measurements, and what it would be refused by once they are searched.
+/// Of a stepped call also what is wrong before that: its m, and whether something lent is short.
 #[derive(Default)]
 pub struct Search<T> {
     slices: Vec<Lent<T>>,
     kinds: Vec<Kind<T>>,
     after: Option<u8>,
+    size: Option<&'static str>,
+    short: bool,
 }
 
 impl<T: Float> Search<T> {
@@ -57,8 +65,15 @@ impl<T: Float> Search<T> {
     }
 
     fn and(mut self, slice: Slice, numbers: &[T], needed: usize) -> Search<T> {
-        self.slices.push(Lent { slice, numbers: numbers.to_vec(), needed });
+        self.short |= numbers.len() < needed;
+        self.slices.push(Lent { slice, numbers: numbers.to_vec(), needed: needed.min(numbers.len()) });
         self
+    }
+
+    /// The half-turns of a weighted close are searched last.
+    fn and_kinds(self, kinds: &[Kind<T>; 4], m: usize) -> Search<T> {
+        let halves = kinds.map(|kind| kind.half().unwrap_or(T::ONE));
+        Search { kinds: kinds[..m].to_vec(), after: fails(&kinds[..m]).then_some(6), ..self.and(Slice::Lone, &halves, m) }
     }
 
     /// New's, for a filter or for both of a pair.
@@ -71,15 +86,33 @@ impl<T: Float> Search<T> {
 
     /// The weighted close's.
     pub fn of_close(n: usize, m: usize, z: &[T], r: &[T], kinds: &[Kind<T>; 4], observed: &[T]) -> Search<T> {
-        let halves = kinds.map(|kind| kind.half().unwrap_or(T::ONE));
-        let search = Search::of_flat_close(n, m, z, r, false, observed).and(Slice::Lone, &halves, m);
-        Search { kinds: kinds[..m].to_vec(), after: fails(&kinds[..m]).then_some(6), ..search }
+        Search::of_flat_close(n, m, z, r, false, observed).and_kinds(kinds, m)
     }
 
     /// The flat close's, of a filter that has a turn or hasn't.
     pub fn of_flat_close(n: usize, m: usize, z: &[T], r: &[T], turn: bool, observed: &[T]) -> Search<T> {
         let search = Search::of(Slice::Noise, r, m * m).and(Slice::Points, observed, m * (2 * n + 1)).and(Slice::Measurement, z, m);
         Search { after: turn.then_some(10), ..search }
+    }
+
+    /// Asking is lent a buffer and searches nothing.
+    pub fn of_ask(n: usize, length: u64) -> Search<T> {
+        Search { short: length < n as u64, ..Search::default() }
+    }
+
+    /// An image's in a correction whose first image has named this m; 0 before it.
+    pub fn of_image(m: u64, first: usize, image: &[T]) -> Search<T> {
+        let (m, size) = judged(m, first);
+        Search { size, ..Search::of(Slice::Points, image, m) }
+    }
+
+    pub fn of_stepped_flat_close(m: u64, first: usize, z: &[T], r: &[T], turn: bool) -> Search<T> {
+        let (m, size) = judged(m, first);
+        Search { size, after: turn.then_some(10), ..Search::of(Slice::Noise, r, m * m).and(Slice::Measurement, z, m) }
+    }
+
+    pub fn of_stepped_close(m: u64, first: usize, z: &[T], r: &[T], kinds: &[Kind<T>; 4]) -> Search<T> {
+        Search::of_stepped_flat_close(m, first, z, r, false).and_kinds(kinds, judged(m, first).0)
     }
 
     /// What an answer with this number and place shows.
@@ -91,8 +124,18 @@ impl<T: Float> Search<T> {
             }
             7 | 8 => vec![row(place)],
             51..=56 => self.told(place),
+            1..=3 => self.waiting(number),
             _ => vec![],
         }
+    }
+
+    /// Behind 3, 1 or 2: all that comes later in this order.
+    fn waiting(&self, number: u8) -> Vec<String> {
+        let size = self.size.filter(|_| number == 1).map(str::to_string);
+        let early = [(1, self.size.is_some() && number == 3), (2, self.short && number != 2)];
+        let early = early.into_iter().filter(|(_, waits)| *waits).map(|(number, _)| number);
+        let searched = self.slices.iter().filter(|lent| lent.bad() > 0).map(|lent| lent.slice.number());
+        size.into_iter().chain(early.chain(searched).chain(self.after).map(before)).collect()
     }
 
     fn told(&self, place: usize) -> Vec<String> {
@@ -116,6 +159,15 @@ impl<T: Float> Search<T> {
         ];
         let words = words.into_iter().filter(|(holds, _)| *holds).map(|(_, word)| word.to_string());
         words.chain(bad.map(|(_, later)| later.slice.number()).chain(self.after).map(before)).collect()
+    }
+}
+
+/// The m of a stepped call as it counts for what is needed, and what is wrong with it.
+fn judged(m: u64, first: usize) -> (usize, Option<&'static str>) {
+    match m {
+        1..=4 if first == 0 || m == first as u64 => (m as usize, None),
+        1..=4 => (m as usize, Some(OTHER_M)),
+        _ => (first.max(1), Some(NO_M)),
     }
 }
 

@@ -36,7 +36,7 @@ pub struct Drawn<T> {
 
 /// What the published correction leaves in its own places, under document 01's letters.
 pub struct Left<T> {
-    /// The points that it showed to the observation function.
+    /// The points that it showed to the observation function, one after the other.
     pub shown: Vec<T>,
     pub c: Vec<T>,
     pub l: Vec<T>,
@@ -64,8 +64,9 @@ pub trait Published<T> {
     fn set_kinds(&mut self, kinds: &[Kind<T>]);
     /// A correction that corrects nothing: stale points are drawn afresh (`refresh_sigma_points`), and they are stale after it.
     fn correct_nothing(&mut self);
-    /// Predicts, with these as the propagated points; hands back the points that it drew.
+    /// Predicts. The transition is given one point after the other and hands back the next of these images; returned are the points that it was given.
     fn predict(&mut self, propagated: &[T]) -> Vec<T>;
+    /// Corrects. The observation goes through the points that it is given one by one, and hands back the next image for each.
     fn correct(&mut self, average: Average, with: &Measurement<T>) -> Left<T>;
     /// The points that a first correction draws; spends the filter.
     fn refreshed(self: Box<Self>) -> Drawn<T>;
@@ -167,29 +168,20 @@ impl<T: Float, const N: usize, const COUNT: usize> Held<T, N, COUNT> {
             (Grid::<T, M, 1>::zero(), Grid::<T, M, M>::zero(), Grid::<T, N, M>::zero(), Grid::<T, M, M>::zero());
         let (mut c, mut t) = (Grid::<T, N, M>::zero(), Grid::<T, N, N>::zero());
         let mut shown = Vec::new();
-        let mut observation: Observation<T, N, M, COUNT> = UnscentedObservation::new(
-            Grid::from_rows(with.z),
-            Grid::from_rows(with.r),
-            &mut y,
-            &mut s,
-            &mut k,
-            &mut v,
-            // In place from the start: `correct_nonlinear` asks no function for what is observed.
-            Grid::from_points(with.observed),
-            &mut c,
-            &mut t,
-        );
+        let observe = |points: &Grid<T, N, COUNT>, observed: &mut Grid<T, M, COUNT>| {
+            for k in 0..COUNT {
+                shown.extend(points.point(k));
+                observed.set_point(k, &with.observed[k * M..][..M]);
+            }
+        };
+        let places = (&mut y, &mut s, &mut k, &mut v, &mut c, &mut t);
+        let made = |observed: Grid<T, M, COUNT>| -> Observation<T, N, M, COUNT> {
+            let (y, s, k, v, c, t) = places;
+            UnscentedObservation::new(Grid::from_rows(with.z), Grid::from_rows(with.r), y, s, k, v, observed, c, t)
+        };
         match average {
-            Average::Weighted => self.filter.correct_sigma_point_with(
-                &mut observation,
-                |points: &Grid<T, N, COUNT>, _: &mut Grid<T, M, COUNT>| shown = points.points(),
-                |dz: &mut [T]| fix(with.kinds, dz),
-            ),
-            Average::Flat => self.filter.correct_sigma_point_with(
-                &mut Flat(observation),
-                |points: &Grid<T, N, COUNT>, _: &mut ()| shown = points.points(),
-                |_: &mut [T]| {},
-            ),
+            Average::Weighted => self.filter.correct_sigma_point_with(&mut made(Grid::zero()), observe, |dz: &mut [T]| fix(with.kinds, dz)),
+            Average::Flat => self.filter.correct_sigma_point_with(&mut Flat(Some(made)), observe, |_: &mut [T]| {}),
         }
         Left { shown, c: c.rows(), l: s.rows(), v: v.rows(), k: k.rows(), y: y.rows(), t: t.rows() }
     }
@@ -289,21 +281,24 @@ impl<T: Float, const N: usize, const COUNT: usize> KalmanFilterUnscentedObservat
 
 /// An observation that corrects by the published `correct_nonlinear`. The published filter only ever calls the weighted one, so this stands
 /// where that is called: the filter redraws stale points, keeps points and weights, and marks itself stale as after any correction.
-struct Flat<'a, T, const N: usize, const M: usize, const COUNT: usize>(Observation<'a, T, N, M, COUNT>);
+/// `correct_nonlinear` asks no function for what is observed, so the published observation is made once that is known.
+struct Flat<F>(Option<F>);
 
-impl<T: Float, const N: usize, const M: usize, const COUNT: usize> KalmanFilterUnscentedObservationCorrectFilter<N, M, COUNT, T>
-    for Flat<'_, T, N, M, COUNT>
+impl<'a, F, T: Float, const N: usize, const M: usize, const COUNT: usize> KalmanFilterUnscentedObservationCorrectFilter<N, M, COUNT, T>
+    for Flat<F>
+where
+    F: FnOnce(Grid<T, M, COUNT>) -> Observation<'a, T, N, M, COUNT>,
 {
-    type ObservedSigmaPoints = ();
+    type ObservedSigmaPoints = Grid<T, M, COUNT>;
     #[allow(non_snake_case)]
-    fn correct_with_observed_residuals<X, P, SP, F, W, NX, NZ>(
+    fn correct_with_observed_residuals<X, P, SP, O, W, NX, NZ>(
         &mut self,
         x: &mut X,
         P: &mut P,
         points: &SP,
         _: &W,
         _: T,
-        mut observation: F,
+        mut observation: O,
         _: NX,
         _: NZ,
     ) where
@@ -311,11 +306,14 @@ impl<T: Float, const N: usize, const M: usize, const COUNT: usize> KalmanFilterU
         P: EstimateCovarianceMatrix<N, T>,
         SP: AsMatrix<N, COUNT, T>,
         W: AsMatrix<COUNT, 1, T>,
-        F: FnMut(&SP, &mut ()),
+        O: FnMut(&SP, &mut Grid<T, M, COUNT>),
         NX: FnMut(&mut [T]),
         NZ: FnMut(&mut [T]),
     {
-        observation(points, &mut ());
-        self.0.correct_nonlinear(x, P, points);
+        let mut observed = Grid::zero();
+        observation(points, &mut observed);
+        if let Some(made) = self.0.take() {
+            made(observed).correct_nonlinear(x, P, points);
+        }
     }
 }

@@ -2,19 +2,20 @@
 
 use std::collections::BTreeMap;
 
-use crate::filter::{self, list_length, Filter, Open, Start, Trouble};
+use crate::filter::{self, list_length, Filter, Open, Start, Trouble, Way};
 use crate::float::Float;
 use crate::kinds::Kind;
 use crate::pair::{Pair, Side};
 use crate::places::Search;
 use crate::refusal::Slice;
+use crate::stages::{Stage, STEPPED};
 use crate::steps::Params;
 
 /// The longest line and the longest list or buffer that are taken.
 pub const LINE: usize = 16_384;
 pub const LIST: u64 = 512;
 
-/// How often each call gave each number, and beside it the stage or step that refused, the sizes of an accepted close of a filter that is no side,
+/// How often each call gave each number, and beside it the step that refused, the sizes of an accepted close of a filter that is no side,
 /// or how things stood before the call (`Reader::beside`).
 pub type Table = BTreeMap<(String, u8, String), u64>;
 
@@ -29,9 +30,16 @@ pub const IN_USE: &str = "in use";
 pub const SETTERS: [&str; 5] = ["setx", "setp", "setq", "setpar", "setkind"];
 pub const SHEET: [&str; 3] = ["setq", "setpar", "setkind"];
 
-/// Whose call is open when a sheet change comes.
+/// Whether request A6 leaves this call out at f32: the flat close, and all stepped ones.
+pub fn is_wide(call: &[u8]) -> bool {
+    call == b"closef" || STEPPED.iter().any(|stepped| stepped.as_bytes() == call)
+}
+
+/// Whose call is open when a sheet change comes, be it a stepped one.
 pub const OWN_OPEN: &str = "own call open";
+pub const OWN_STEPPED: &str = "own stepped call open";
 pub const PARTNER_OPEN: &str = "partner's call open";
+pub const PARTNER_STEPPED: &str = "partner's stepped call open";
 pub const BOTH_OPEN: &str = "both calls open";
 
 /// On whom a call is made.
@@ -97,7 +105,8 @@ impl Reader {
         let told = match read {
             Ok(line) => {
                 let told = self.take(&line)?;
-                if matches!(told.number, 0 | 7 | 8 | 51..=56) {
+                // Of the others, 1, 2 and 3 of stepped calls alone are asked what had to wait for them.
+                if matches!(told.number, 0 | 7 | 8 | 51..=56) || line.is_stepped() {
                     for word in self.shown(&line, told.number, told.place) {
                         *self.places.entry((told.call.clone(), told.number, word)).or_default() += 1;
                     }
@@ -167,12 +176,13 @@ impl Reader {
     }
 }
 
-/// For a setting of a filter that is no side its own stage and points count. Other calls, and the empty filter, have nothing to tell.
+/// For a call on a filter that is no side its own stage counts, and for a setting with nothing open its points. Readings, which are always taken,
+/// and the empty filter have nothing to tell.
 fn own_state<T>(filter: &Filter<T>, call: &str) -> String {
     match filter.open {
-        _ if filter.n == 0 || !SETTERS.contains(&call) => String::new(),
-        Open::Nothing => points(filter).into(),
-        open => open.name().into(),
+        _ if filter.n == 0 || call.starts_with("read") || call == "dump" => String::new(),
+        Open::Nothing if SETTERS.contains(&call) => points(filter).into(),
+        _ => Stage::of(filter).name(),
     }
 }
 
@@ -186,10 +196,12 @@ fn points<T>(filter: &Filter<T>) -> &'static str {
 
 /// What a sheet change meets: open calls, or else points of both sides.
 fn sheet_meets(own: &Filter<f64>, partner: &Filter<f64>) -> String {
-    match (own.open, partner.open) {
-        (Open::Nothing, Open::Nothing) => on_points(points(own), points(partner)),
-        (_, Open::Nothing) => OWN_OPEN.into(),
-        (Open::Nothing, _) => PARTNER_OPEN.into(),
+    match (own.open.way(), partner.open.way()) {
+        (None, None) => on_points(points(own), points(partner)),
+        (Some(Way::Whole), None) => OWN_OPEN.into(),
+        (Some(Way::Stepped), None) => OWN_STEPPED.into(),
+        (None, Some(Way::Whole)) => PARTNER_OPEN.into(),
+        (None, Some(Way::Stepped)) => PARTNER_STEPPED.into(),
         _ => BOTH_OPEN.into(),
     }
 }
@@ -263,10 +275,12 @@ fn searched_on<T: Float>(filter: &Filter<T>, call: &OnFilter<T>) -> Search<T> {
         OnFilter::Set(Setting::Par(par)) => Search::of(Slice::Lone, &par.numbers(), 3),
         OnFilter::CloseP(propagated) => Search::of(Slice::Points, propagated, list_length(n)),
         OnFilter::CloseC(m, z, r, kinds, observed) => Search::of_close(n, *m as usize, z, r, kinds, observed),
-        OnFilter::CloseF(m, z, r, observed) => {
-            let turn = filter.kinds.iter().any(|kind| kind.half().is_some());
-            Search::of_flat_close(n, *m as usize, z, r, turn, observed)
-        }
+        OnFilter::CloseF(m, z, r, observed) => Search::of_flat_close(n, *m as usize, z, r, filter.has_turn(), observed),
+        OnFilter::Lent(Lent::Point, length) => Search::of_ask(n, *length),
+        OnFilter::ImageP(image) => Search::of(Slice::Points, image, n),
+        OnFilter::ImageC(m, image) => Search::of_image(*m, filter.kept.m, image),
+        OnFilter::StepCloseC(m, z, r, kinds) => Search::of_stepped_close(*m, filter.kept.m, z, r, kinds),
+        OnFilter::StepCloseF(m, z, r) => Search::of_stepped_flat_close(*m, filter.kept.m, z, r, filter.has_turn()),
         _ => Search::default(),
     }
 }
@@ -296,6 +310,7 @@ fn on_filter<T: Float>(filter: &mut Filter<T>, call: &OnFilter<T>) -> Result<Tol
                 Lent::P => filter.read_p(&mut buffer),
                 Lent::Q => filter.read_q(&mut buffer),
                 Lent::Points => filter.read_points(&mut buffer),
+                Lent::Point => filter.ask(&mut buffer),
             };
             told(name, outcome, |_| format!(" {length}{}", bits(&buffer)))
         }
@@ -311,9 +326,26 @@ fn on_filter<T: Float>(filter: &mut Filter<T>, call: &OnFilter<T>) -> Result<Tol
             let outcome = filter.close_flat(*m, z, r, observed);
             closed(name, outcome, filter, format!(" m={m}"))
         }
+        OnFilter::StepOpenP => bare(name, filter.open_prediction_stepped()),
+        OnFilter::StepOpenC => bare(name, filter.open_correction_stepped()),
+        OnFilter::ImageP(image) => bare(name, filter.image_of_prediction(image)),
+        OnFilter::ImageC(m, image) => bare(name, filter.image_of_correction(*m, image)),
+        OnFilter::StepCloseP => {
+            let outcome = filter.close_prediction_stepped();
+            closed(name, outcome, filter, String::new())
+        }
+        OnFilter::StepCloseC(m, z, r, kinds) => {
+            let outcome = filter.close_correction_stepped(*m, z, r, *kinds);
+            closed(name, outcome, filter, format!(" m={m}"))
+        }
+        OnFilter::StepCloseF(m, z, r) => {
+            let outcome = filter.close_flat_stepped(*m, z, r);
+            closed(name, outcome, filter, format!(" m={m}"))
+        }
         OnFilter::ReadPar => told(name, filter.read_params(), |par| bits(&par.unwrap_or_default().numbers())),
         OnFilter::ReadStale => told(name, filter.read_stale(), |stale| format!(" {}", u8::from(stale.unwrap_or(true)))),
-        OnFilter::Dump => told(name, Ok(()), |_| format!(" {}", dumped(filter))),
+        OnFilter::Dump => told(name, Ok(()), |_| format!(" {}{}", dumped(filter), dumped_steps(filter))),
+        OnFilter::NarrowDump => told(name, Ok(()), |_| format!(" {}", dumped(filter))),
     }
 }
 
@@ -332,14 +364,10 @@ fn told<A>(call: &str, outcome: Result<A, Trouble>, rest: impl FnOnce(Option<A>)
     Ok(Told { call: call.into(), number, place, more: step.into(), text: format!("{number} {place}{}", rest(answer)) })
 }
 
-/// An answer to a close: x and P where it is accepted. Of a 3 the table tells what was open.
+/// An answer to a close: x and P where it is accepted.
 fn closed<T: Float>(call: &str, outcome: Result<(), Trouble>, filter: &Filter<T>, m: String) -> Result<Told, String> {
     let told = told(call, outcome, |done| done.map(|()| format!(" x{} P{}", bits(&filter.x), bits(&filter.p))).unwrap_or_default())?;
-    let more = match told.number {
-        0 => format!("n={}{m}", filter.n),
-        3 => filter.open.name().into(),
-        _ => told.more,
-    };
+    let more = if told.number == 0 { format!("n={}{m}", filter.n) } else { told.more };
     Ok(Told { more, ..told })
 }
 
@@ -368,8 +396,8 @@ fn dumped<T: Float>(filter: &Filter<T>) -> String {
         .collect();
     let open = match filter.open {
         Open::Nothing => '-',
-        Open::Prediction => 'p',
-        Open::Correction => 'c',
+        Open::Prediction(_) => 'p',
+        Open::Correction(_) => 'c',
     };
     format!(
         "n {} x{} P{} Q{} par{} kinds{} w{} pts{} stale {} open {} dw{} dpts{}",
@@ -388,6 +416,17 @@ fn dumped<T: Float>(filter: &Filter<T>) -> String {
     )
 }
 
+/// In which way a call is open, and what it keeps where that is the stepped one.
+fn dumped_steps<T: Float>(filter: &Filter<T>) -> String {
+    let way = match filter.open.way() {
+        None => '-',
+        Some(Way::Whole) => 'w',
+        Some(Way::Stepped) => 's',
+    };
+    let kept = &filter.kept;
+    format!(" way {way} at {} asked {} m {} img{}", kept.at, u8::from(kept.asked), kept.m, bits(&kept.images))
+}
+
 /// Calls that are lent a buffer.
 enum Lent {
     OpenP,
@@ -396,6 +435,8 @@ enum Lent {
     P,
     Q,
     Points,
+    /// Of a stepped call, the next one.
+    Point,
 }
 
 enum Setting<T> {
@@ -445,9 +486,18 @@ enum OnFilter<T> {
     CloseP(Vec<T>),
     CloseC(u64, Vec<T>, Vec<T>, [Kind<T>; 4], Vec<T>),
     CloseF(u64, Vec<T>, Vec<T>, Vec<T>),
+    StepOpenP,
+    StepOpenC,
+    ImageP(Vec<T>),
+    ImageC(u64, Vec<T>),
+    StepCloseP,
+    StepCloseC(u64, Vec<T>, Vec<T>, [Kind<T>; 4]),
+    StepCloseF(u64, Vec<T>, Vec<T>),
     ReadPar,
     ReadStale,
     Dump,
+    /// A dump that says nothing of steps.
+    NarrowDump,
 }
 
 impl<T: Float> OnFilter<T> {
@@ -464,9 +514,17 @@ impl<T: Float> OnFilter<T> {
             OnFilter::CloseP(_) => "closep",
             OnFilter::CloseC(..) => "closec",
             OnFilter::CloseF(..) => "closef",
+            OnFilter::Lent(Lent::Point, _) => "ask",
+            OnFilter::StepOpenP => "sopenp",
+            OnFilter::StepOpenC => "sopenc",
+            OnFilter::ImageP(_) => "imagep",
+            OnFilter::ImageC(..) => "imagec",
+            OnFilter::StepCloseP => "sclosep",
+            OnFilter::StepCloseC(..) => "sclosec",
+            OnFilter::StepCloseF(..) => "sclosef",
             OnFilter::ReadPar => "readpar",
             OnFilter::ReadStale => "readstale",
-            OnFilter::Dump => "dump",
+            OnFilter::Dump | OnFilter::NarrowDump => "dump",
         }
     }
 }
@@ -486,6 +544,15 @@ enum Line {
     Narrow(Call<f32>),
     NewPair(u64, Vec<f64>, Vec<f64>, Vec<f64>, Vec<f64>, Vec<f64>, Params<f64>),
     Side(Side, OnFilter<f64>),
+}
+
+impl Line {
+    fn is_stepped(&self) -> bool {
+        match self {
+            Line::Solo(Call::On(call)) | Line::Side(_, call) => STEPPED.contains(&call.name()),
+            _ => false,
+        }
+    }
 }
 
 /// Reads a line whole before anything is done.
@@ -530,10 +597,11 @@ impl<'a> Tokens<'a> {
         call(self, word)
     }
 
-    /// A call of the f32 filter, which has no flat close.
+    /// A call of the f32 filter, which has no flat close and no steps.
     fn narrow(&mut self, word: &[u8]) -> Result<Call<f32>, Bad> {
         match word {
-            b"closef" => Err(Bad),
+            b"dump" => Ok(Call::On(OnFilter::NarrowDump)),
+            _ if is_wide(word) => Err(Bad),
             _ => self.call(word),
         }
     }
@@ -563,14 +631,16 @@ impl<'a> Tokens<'a> {
             b"readq" => OnFilter::Lent(Lent::Q, self.length()?),
             b"readpts" => OnFilter::Lent(Lent::Points, self.length()?),
             b"closep" => OnFilter::CloseP(self.list()?),
-            b"closec" => OnFilter::CloseC(
-                self.size()?,
-                self.list()?,
-                self.list()?,
-                [self.kind()?, self.kind()?, self.kind()?, self.kind()?],
-                self.list()?,
-            ),
+            b"closec" => OnFilter::CloseC(self.size()?, self.list()?, self.list()?, self.kinds()?, self.list()?),
             b"closef" => OnFilter::CloseF(self.size()?, self.list()?, self.list()?, self.list()?),
+            b"sopenp" => OnFilter::StepOpenP,
+            b"sopenc" => OnFilter::StepOpenC,
+            b"ask" => OnFilter::Lent(Lent::Point, self.length()?),
+            b"imagep" => OnFilter::ImageP(self.list()?),
+            b"imagec" => OnFilter::ImageC(self.size()?, self.list()?),
+            b"sclosep" => OnFilter::StepCloseP,
+            b"sclosec" => OnFilter::StepCloseC(self.size()?, self.list()?, self.list()?, self.kinds()?),
+            b"sclosef" => OnFilter::StepCloseF(self.size()?, self.list()?, self.list()?),
             b"readpar" => OnFilter::ReadPar,
             b"readstale" => OnFilter::ReadStale,
             b"dump" => OnFilter::Dump,
@@ -629,5 +699,10 @@ impl<'a> Tokens<'a> {
             Some(b"t") => Ok(Kind::Turn(self.float()?)),
             _ => Err(Bad),
         }
+    }
+
+    /// Four KINDs.
+    fn kinds<T: Float>(&mut self) -> Result<[Kind<T>; 4], Bad> {
+        Ok([self.kind()?, self.kind()?, self.kind()?, self.kind()?])
     }
 }

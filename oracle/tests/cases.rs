@@ -1,4 +1,4 @@
-//! Document 01's cases, the flat close, settings, pairs, places and the f32 filter of document 02's A1 and A3 to A6 and the example of docs/SCRIPT.md, held to answers written by hand.
+//! Document 01's cases, the flat close, settings, pairs, places, the f32 filter and one point at a time of document 02's A1 and A3 to A7 and the examples of docs/SCRIPT.md, held to answers written by hand.
 
 use oracle::script::Reader;
 
@@ -29,6 +29,74 @@ fn example_of_the_script() {
         "0 0 x 4002000000000000 P 4010000000000000",
     ];
     assert_eq!(answers(script), expected);
+}
+
+#[test]
+fn stepped_example_of_the_script() {
+    let script = "
+        new 1 1 4000000000000000 1 4010000000000000 1 3ff0000000000000 3ff0000000000000 0000000000000000 0000000000000000
+        sopenp
+        ask 1
+        imagep 1 4000000000000000
+        ask 1
+        imagep 1 4010000000000000
+        ask 1
+        imagep 1 0000000000000000
+        sclosep";
+    let expected = [
+        "0 0",
+        "0 0",
+        "0 0 1 4000000000000000",
+        "0 0",
+        "0 0 1 4010000000000000",
+        "0 0",
+        "0 0 1 0000000000000000",
+        "0 0",
+        "0 0 x 4000000000000000 P 4014000000000000",
+    ];
+    assert_eq!(answers(script), expected);
+}
+
+/// What is a line of a stepped call.
+#[test]
+fn stepped_lines() {
+    let last = |line: &str| answers(line).pop();
+    for line in ["imagep 0", "imagec 18446744073709551615 0", "sclosep # now", "sclosec 9 0 0 p p t 7FF0000000000001 p", "sclosef 9 0 0"] {
+        assert_eq!(last(line), Some("3 0".into()), "{line}");
+        assert_eq!(last(&format!("@2 {line}")), Some("3 0".into()), "@2 {line}");
+        assert_eq!(last(&format!("@w {line}")), Some("bad".into()), "@w {line}");
+    }
+    assert_eq!(last("ask 2"), Some("3 0 2 4330000000000000 4330000000000001".into()));
+    assert_eq!(last("ask 512").map(|answer| answer.len()), Some("3 0 512".len() + 512 * 17));
+    assert_eq!(last("@1 sopenc"), Some("1 0".into()));
+    for line in [
+        "sopenp 3",
+        "@1 sopenc 0",
+        "ask",
+        "ask 513",
+        "ask 1 1",
+        "imagep",
+        "imagep 1 1 3ff0000000000000",
+        "imagec 0",
+        "imagec 1 1",
+        "sclosep 0",
+        "sclosec 1 0 0",
+        "sclosec 1 0 0 p p p",
+        "sclosec 1 0 0 p p p p 0",
+        "sclosef 1 0 0 0",
+        "sclosef 1 0",
+        "sopen",
+        "Ask 1",
+        "@w sopenp",
+        "@w sopenc",
+        "@w ask 1",
+        "@w imagep 1 3f800000",
+        "@w imagec 1 1 3f800000",
+        "@w sclosec 1 1 3f800000 1 3f800000 p p p p",
+        "@w sclosef 1 1 3f800000 1 3f800000",
+    ] {
+        assert_eq!(last(line), Some("bad".into()), "{line}");
+    }
 }
 
 /// What is a line, a token, a number.

@@ -1,8 +1,10 @@
-//! A generated script: the published Rust and the documents agree throughout, every refusal of every call is met, and nobody notices another.
+//! A generated script: the published Rust and the documents agree throughout, every refusal of every call is met, nobody notices another,
+//! and one point at a time comes to the same as whole lists.
 
 use std::process::Command;
 
-use oracle::coverage::{not_met, numbers};
+use oracle::coverage::{count, not_met, numbers};
+use oracle::filter::Way;
 use oracle::script::Reader;
 
 /// The lines of a generated script.
@@ -41,4 +43,53 @@ fn nobody_notices_another() {
         };
         assert_eq!(answer(&mut together, &line), answer(&mut apart[whose], &line), "{}", String::from_utf8_lossy(&line));
     }
+}
+
+/// A close by whole lists as the lines that do the same one point at a time: asks and images, then the close without its last list.
+fn stepwise(n: usize, close: &[&str]) -> Vec<String> {
+    let behind_list = |at: usize| at + 1 + close[at].parse::<usize>().expect("a length");
+    let (image, d, at) = match close[0] {
+        "closep" => ("imagep".to_string(), n, 1),
+        name => {
+            let mut at = behind_list(behind_list(2));
+            for _ in 0..if name == "closec" { 4 } else { 0 } {
+                at += if close[at] == "t" { 2 } else { 1 };
+            }
+            (format!("imagec {}", close[1]), close[1].parse().expect("an m"), at)
+        }
+    };
+    let images = close[at + 1..].chunks(d).take(2 * n + 1);
+    let steps = images.flat_map(|numbers| [format!("ask {n}"), format!("{image} {d} {}", numbers.join(" "))]);
+    steps.chain([format!("s{}", close[..at].join(" "))]).collect()
+}
+
+/// Request A7: the calls of a solo filter that were opened by whole lists and accepted, played one point at a time. The closes give the same answers, and so does every later call.
+#[test]
+fn steps_come_to_whole_lists() {
+    let (mut whole, mut stepped) = (Reader::default(), Reader::default());
+    let (mut playing, mut closes) = (false, 0);
+    for line in script("3", "40000").iter().filter(|line| !line.starts_with(b"@")) {
+        let (text, n) = (String::from_utf8_lossy(line), whole.filter.n);
+        let tokens: Vec<&str> = text.split_ascii_whitespace().collect();
+        let shut = whole.filter.open.way().is_none();
+        let said = answer(&mut whole, line);
+        let played = match tokens.first() {
+            Some(_) if shut && whole.filter.open.way() == Some(Way::Whole) => {
+                playing = true;
+                assert_eq!(answer(&mut stepped, format!("s{}", tokens[0]).as_bytes()).as_deref(), Some("0 0"));
+                continue;
+            }
+            Some(_) if playing && whole.filter.open.way().is_some() => continue, // it stays open
+            Some(&("closep" | "closec" | "closef")) if playing => {
+                closes += 1;
+                stepwise(n, &tokens).iter().map(|step| answer(&mut stepped, step.as_bytes())).last().flatten()
+            }
+            _ => answer(&mut stepped, line),
+        };
+        playing &= whole.filter.open.way().is_some();
+        assert_eq!(played, said, "{text}");
+    }
+    // None was left out.
+    let accepted: u64 = ["closep", "closec", "closef"].iter().map(|call| count(&whole.table, call, 0)).sum();
+    assert!(closes == accepted && closes > 500, "{closes} closes of {accepted}");
 }

@@ -5,7 +5,7 @@ use mathlib.Core.Bool.{true}
 use mathlib.Core.List.{List, [], _∷_, _++_}
 use native.Mathlib.Omega.{arith}
 use lib.ListN.{length, take, drop, set, replicate, take-append-drop, getD, length-drop}
-use lib.Seq.{take-at, drop-at, length-take-le, getD-drop, ext-getD}
+use lib.Seq.{paste, length-paste, take-paste, drop-paste, drop-drop, take-at, drop-at, length-take-le, getD-drop, ext-getD}
 use lib.Ieee.{Float, nan, Format}
 use lib.Ieee.Scale.{finite}
 use Rattle.floats.specs.Numbers.{plusZero, zeros, allFinite}
@@ -40,6 +40,9 @@ all-set (y ∷ l) (suc i) x h k =
 
 pub all-front : (k : ℕ) (l : List Float) → allFinite l ≡ true → allFinite (take k l) ≡ true
 all-front k l h = all-parts (take k l) (drop k l) (rw take-append-drop h) .0
+
+pub all-back : (k : ℕ) (l : List Float) → allFinite l ≡ true → allFinite (drop k l) ≡ true
+all-back k l h = all-parts (take k l) (drop k l) (rw take-append-drop h) .1
 
 pub all-places : (e : ℕ → Float) → ((i : ℕ) → finite (e i) ≡ true) → (k : ℕ) (t : List Float) → allFinite t ≡ true → allFinite (placesOf e k t) ≡ true
 unfolding placesOf
@@ -80,6 +83,14 @@ filled-front k m s h g a = record {
 
 pub filled-zeros : (k m : ℕ) → Filled k m (zeros m)
 filled-zeros k m = record { long = length-zeros m; bounded = all-front k (zeros m) (all-zeros m); unused = drop-zeros k m }
+
+-- d numbers of v after the k in use
+pub filled-paste : (k d m : ℕ) (l v : List Float) → Filled k m l → k + d ≤ m → d ≤ length v → allFinite (take d v) ≡ true → Filled (k + d) m (paste l k v d)
+filled-paste k d m l v a g h b = record {
+  long = length-paste l k v d (omega (arith, a .long)) h ∙ a .long;
+  bounded = ap allFinite (take-paste l k v d (omega (arith, a .long)) h) ∙ all-both (take k l) (take d v) (a .bounded) b;
+  unused = drop-paste l k v d (omega (arith, a .long)) h ∙ sym (drop-drop d k l) ∙ ap (drop d) (a .unused) ∙ drop-zeros d (m - k) ∙ (let e : m - k - d ≡ m - (k + d) = omega arith in ap zeros e);
+}
 
 -- all of such an array is finite
 pub filled-all : {k m : ℕ} {l : List Float} → Filled k m l → allFinite l ≡ true

@@ -162,6 +162,22 @@ use Rattle.filter.proofs.point.point_refusal.Kinds as point-refusal-of
 use Rattle.filter.proofs.point.point_refusal.Reads as point-refusal
 use Rattle.filter.proofs.point.point.Kinds as point-of
 use Rattle.filter.proofs.point.point.Reads as point
+use Rattle.stepped.proofs.open_prediction.Kinds as stepped-open-prediction-of
+use Rattle.stepped.proofs.open_prediction.Reads as stepped-open-prediction
+use Rattle.stepped.proofs.open_correction.Kinds as stepped-open-correction-of
+use Rattle.stepped.proofs.open_correction.Reads as stepped-open-correction
+use Rattle.stepped.proofs.ask.Kinds as stepped-ask-of
+use Rattle.stepped.proofs.ask.Reads as stepped-ask
+use Rattle.stepped.proofs.image_prediction.Kinds as stepped-image-prediction-of
+use Rattle.stepped.proofs.image_prediction.Reads as stepped-image-prediction
+use Rattle.stepped.proofs.image_correction.Kinds as stepped-image-correction-of
+use Rattle.stepped.proofs.image_correction.Reads as stepped-image-correction
+use Rattle.stepped.proofs.close_prediction.Kinds as stepped-close-prediction-of
+use Rattle.stepped.proofs.close_prediction.Reads as stepped-close-prediction
+use Rattle.stepped.proofs.close_correction.Kinds as stepped-close-correction-of
+use Rattle.stepped.proofs.close_correction.Reads as stepped-close-correction
+use Rattle.stepped.proofs.close_correction_flat.Kinds as stepped-close-correction-flat-of
+use Rattle.stepped.proofs.close_correction_flat.Reads as stepped-close-correction-flat
 use Rattle.words.proofs.float_of.Kinds as float-of-of
 use Rattle.words.proofs.float_of.Reads as float-of
 use Rattle.words.proofs.bits_of.Kinds as bits-of-of
@@ -202,6 +218,8 @@ use Rattle.script.proofs.write.put_bit.Kinds as put-bit-of
 use Rattle.script.proofs.write.put_bit.Reads as put-bit
 use Rattle.script.proofs.write.put_stage.Kinds as put-stage-of
 use Rattle.script.proofs.write.put_stage.Reads as put-stage
+use Rattle.script.proofs.write.put_way.Kinds as put-way-of
+use Rattle.script.proofs.write.put_way.Reads as put-way
 use Rattle.script.proofs.write.put_number.Kinds as put-number-of
 use Rattle.script.proofs.write.put_number.Reads as put-number
 use Rattle.script.proofs.write.put_numbers.Kinds as put-numbers-of
@@ -425,6 +443,32 @@ close-correction-flat-one κs a z z′ w w′ p q = (by p q, refl)
 pub abandon-one : OneAnswer abandon-of.ps abandon-of.r abandon.Learnt
 abandon-one κs a z z′ w w′ p q = (by p q, refl)
 
+-- the stepped calls
+
+pub stepped-open-prediction-one : OneAnswer stepped-open-prediction-of.ps stepped-open-prediction-of.r stepped-open-prediction.Learnt
+stepped-open-prediction-one κs a z z′ w w′ p q = (by p q, refl)
+
+pub stepped-open-correction-one : OneAnswer stepped-open-correction-of.ps stepped-open-correction-of.r stepped-open-correction.Learnt
+stepped-open-correction-one κs a z z′ w w′ p q = (by p q, refl)
+
+pub stepped-ask-one : OneAnswer stepped-ask-of.ps stepped-ask-of.r stepped-ask.Learnt
+stepped-ask-one κs a z z′ w w′ p q = (by (p .0) (q .0), lent (by (p .1) (q .1)))
+
+pub stepped-image-prediction-one : OneAnswer stepped-image-prediction-of.ps stepped-image-prediction-of.r stepped-image-prediction.Learnt
+stepped-image-prediction-one κs a z z′ w w′ p q = (by p q, refl)
+
+pub stepped-image-correction-one : OneAnswer stepped-image-correction-of.ps stepped-image-correction-of.r stepped-image-correction.Learnt
+stepped-image-correction-one κs a z z′ w w′ p q = (by p q, refl)
+
+pub stepped-close-prediction-one : OneAnswer stepped-close-prediction-of.ps stepped-close-prediction-of.r stepped-close-prediction.Learnt
+stepped-close-prediction-one κs a z z′ w w′ p q = (by p q, refl)
+
+pub stepped-close-correction-one : OneAnswer stepped-close-correction-of.ps stepped-close-correction-of.r stepped-close-correction.Learnt
+stepped-close-correction-one κs a z z′ w w′ p q = (by p q, refl)
+
+pub stepped-close-correction-flat-one : OneAnswer stepped-close-correction-flat-of.ps stepped-close-correction-flat-of.r stepped-close-correction-flat.Learnt
+stepped-close-correction-flat-one κs a z z′ w w′ p q = (by p q, refl)
+
 pub read-params-one : OneAnswer read-params-of.ps read-params-of.r read-params.Learnt
 read-params-one κs a z z′ w w′ p q = (by p q, refl)
 
@@ -514,6 +558,9 @@ put-bit-one κs a z z′ w w′ p q = (by (p .0) (q .0), ap (λ (l : List ℕ). 
 
 pub put-stage-one : OneAnswer put-stage-of.ps put-stage-of.r put-stage.Learnt
 put-stage-one κs a z z′ w w′ p q = (by (p .0) (q .0), ap (λ (l : List ℕ). (l, (tt, (tt, tt)))) (by (p .1) (q .1)))
+
+pub put-way-one : OneAnswer put-way-of.ps put-way-of.r put-way.Learnt
+put-way-one κs a z z′ w w′ p q = (by (p .0) (q .0), ap (λ (l : List ℕ). (l, (tt, (tt, tt)))) (by (p .1) (q .1)))
 
 pub put-number-one : OneAnswer put-number-of.ps put-number-of.r put-number.Learnt
 put-number-one κs a z z′ w w′ p q = (by (p .0) (q .0), ap (λ (l : List ℕ). (l, (tt, (tt, tt)))) (by (p .1) (q .1)))

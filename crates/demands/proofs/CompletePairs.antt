@@ -26,6 +26,22 @@ use Rattle.pairs.proofs.Pair.close_correction.Kinds as close-correction-of
 use Rattle.pairs.proofs.Pair.close_correction.Reads as close-correction
 use Rattle.pairs.proofs.Pair.close_correction_flat.Kinds as close-correction-flat-of
 use Rattle.pairs.proofs.Pair.close_correction_flat.Reads as close-correction-flat
+use Rattle.pairs.proofs.Pair.open_prediction_stepped.Kinds as open-prediction-stepped-of
+use Rattle.pairs.proofs.Pair.open_prediction_stepped.Reads as open-prediction-stepped
+use Rattle.pairs.proofs.Pair.open_correction_stepped.Kinds as open-correction-stepped-of
+use Rattle.pairs.proofs.Pair.open_correction_stepped.Reads as open-correction-stepped
+use Rattle.pairs.proofs.Pair.ask.Kinds as ask-of
+use Rattle.pairs.proofs.Pair.ask.Reads as ask
+use Rattle.pairs.proofs.Pair.image_prediction.Kinds as image-prediction-of
+use Rattle.pairs.proofs.Pair.image_prediction.Reads as image-prediction
+use Rattle.pairs.proofs.Pair.image_correction.Kinds as image-correction-of
+use Rattle.pairs.proofs.Pair.image_correction.Reads as image-correction
+use Rattle.pairs.proofs.Pair.close_prediction_stepped.Kinds as close-prediction-stepped-of
+use Rattle.pairs.proofs.Pair.close_prediction_stepped.Reads as close-prediction-stepped
+use Rattle.pairs.proofs.Pair.close_correction_stepped.Kinds as close-correction-stepped-of
+use Rattle.pairs.proofs.Pair.close_correction_stepped.Reads as close-correction-stepped
+use Rattle.pairs.proofs.Pair.close_correction_flat_stepped.Kinds as close-correction-flat-stepped-of
+use Rattle.pairs.proofs.Pair.close_correction_flat_stepped.Reads as close-correction-flat-stepped
 use Rattle.pairs.proofs.Pair.abandon.Kinds as abandon-of
 use Rattle.pairs.proofs.Pair.abandon.Reads as abandon
 use Rattle.pairs.proofs.Pair.read_x.Kinds as read-x-of
@@ -77,6 +93,30 @@ close-correction-one κs a z z′ w w′ p q = (by p q, refl)
 
 pub close-correction-flat-one : OneAnswer close-correction-flat-of.ps close-correction-flat-of.r close-correction-flat.Learnt
 close-correction-flat-one κs a z z′ w w′ p q = (by p q, refl)
+
+pub open-prediction-stepped-one : OneAnswer open-prediction-stepped-of.ps open-prediction-stepped-of.r open-prediction-stepped.Learnt
+open-prediction-stepped-one κs a z z′ w w′ p q = (by p q, refl)
+
+pub open-correction-stepped-one : OneAnswer open-correction-stepped-of.ps open-correction-stepped-of.r open-correction-stepped.Learnt
+open-correction-stepped-one κs a z z′ w w′ p q = (by p q, refl)
+
+pub ask-one : OneAnswer ask-of.ps ask-of.r ask.Learnt
+ask-one κs a z z′ w w′ p q = (by (p .0) (q .0), lent (by (p .1) (q .1)))
+
+pub image-prediction-one : OneAnswer image-prediction-of.ps image-prediction-of.r image-prediction.Learnt
+image-prediction-one κs a z z′ w w′ p q = (by p q, refl)
+
+pub image-correction-one : OneAnswer image-correction-of.ps image-correction-of.r image-correction.Learnt
+image-correction-one κs a z z′ w w′ p q = (by p q, refl)
+
+pub close-prediction-stepped-one : OneAnswer close-prediction-stepped-of.ps close-prediction-stepped-of.r close-prediction-stepped.Learnt
+close-prediction-stepped-one κs a z z′ w w′ p q = (by p q, refl)
+
+pub close-correction-stepped-one : OneAnswer close-correction-stepped-of.ps close-correction-stepped-of.r close-correction-stepped.Learnt
+close-correction-stepped-one κs a z z′ w w′ p q = (by p q, refl)
+
+pub close-correction-flat-stepped-one : OneAnswer close-correction-flat-stepped-of.ps close-correction-flat-stepped-of.r close-correction-flat-stepped.Learnt
+close-correction-flat-stepped-one κs a z z′ w w′ p q = (by p q, refl)
 
 pub abandon-one : OneAnswer abandon-of.ps abandon-of.r abandon.Learnt
 abandon-one κs a z z′ w w′ p q = (by p q, refl)

@@ -1,14 +1,15 @@
 -- Demand 1: a call ends with a result or one of the refusals, each exactly when its row says, with its place; what is refused changes nothing; every number handed out is finite. Over every format. Assumes nothing.
 use Prim.Native.Nat.{ℕ, _+_, _*_, _<_, _≤_}
-use mathlib.Core.Path.{_≡_, refl}
-use mathlib.Core.Bool.{true, false, cond}
-use mathlib.Core.List.{List, [], _∷_}
+use mathlib.Core.Path.{_≡_, refl, sym, _∙_}
+use mathlib.Core.Bool.{true, false, not, _&&_, cond}
+use mathlib.Core.List.{List, [], _∷_, _++_}
 use mathlib.Core.Logic.{_↔_, _≢_, _⊎_}
 use native.Mathlib.Omega.{arith}
+use lib.Dec.{leb, eqb}
 use lib.ListN.{length, take}
 use lib.Ieee.{Float, Format, add}
 use Rattle.floats.specs.declared.Slice.{Slice}
-use Rattle.floats.specs.declared.Slice.the-variants.{State, Covariance, Noise, Lone}
+use Rattle.floats.specs.declared.Slice.the-variants.{State, Covariance, Noise, Points, Measurement, Lone}
 use Rattle.floats.specs.Refusal.{Refusal, NUMBER, PARAM, SIZE, STAGE, KIND, PIVOT, INNOV, badLone, verdict, taken, Outcome, refusal}
 use Rattle.floats.specs.Search.{Input}
 use Rattle.floats.specs.Numbers.{plusZero, zeros, allFinite}
@@ -23,24 +24,25 @@ use Rattle.sigma.specs.declared.Params.{Params}
 use Rattle.sigma.specs.Weights.{scaleOf, w0mOf}
 use Rattle.sigma.specs.Draw.{pointNumbers}
 use Rattle.filter.specs.declared.Filter.{Filter}
-use Rattle.filter.specs.Asked.{by-params}
-use Rattle.filter.specs.Filters.{isShut, seen}
-use Rattle.filter.specs.Calls.{Call, writing, setting, closing, set-kind, open-prediction, open-correction, close-prediction, close-correction, close-correction-flat, fits, halves, asks, plan, weightedFrom, flatFrom}
+use Rattle.filter.specs.Asked.{Asks, by-params}
+use Rattle.filter.specs.Filters.{isShut, isPredictingStepped, isCorrectingStepped, isStepped, seen}
+use Rattle.filter.specs.Calls.{Call, writing, setting, stepping, closing, closing-stepped, set-kind, open-prediction, open-correction, open-prediction-stepped, open-correction-stepped, ask, image-prediction, image-correction, SteppedClose, close-prediction-stepped, close-correction-stepped, close-correction-flat-stepped, withList, close-prediction, close-correction, close-correction-flat, fits, halves, asKinds, named, asks, plan, weightedFrom, flatFrom}
 use Rattle.filter.specs.Steps.{Reply, Stepped, step, answered, paramsRead, staleRead}
 use Rattle.filter.specs.New.{emptySheet, emptyTrack, empty, Start, from, newAsks, startAsks, newSheet, newTrack, newAnswer}
 use Rattle.filter.specs.Point.{pointAsks, pointRefusal, pointOf}
-use Rattle.demands.specs.Rows.{Some, NotFinite, NotAbove, Below, OutOfRange, FirstIn, FirstBad, searches, Ascending, BadTurn, FirstBadTurn, IsTurn, IsOpen, IsClose, IsCorrection, IsFlat, Measurable, UnfitTurn, Fails, FirstFails, Cause, Applies, Due, Free, ByStep, Placed, Neither}
+use Rattle.demands.specs.Rows.{Some, NotFinite, NotAbove, Below, OutOfRange, FirstIn, FirstBad, searches, Ascending, BadTurn, FirstBadTurn, IsTurn, IsOpen, IsClose, IsCorrection, IsFlat, Measurable, UnfitTurn, Fails, FirstFails, Cause, Applies, Due, Free, ByStep, Placed, Neither, steppedAsks}
 use Rattle.demands.specs.Listed.{listedAtOpen, listedAtPrediction, listedAtHead, listedAtCorrection}
 use Rattle.demands.specs.Runs.{told}
 use Rattle.demands.specs.Sound.{Sound, Tidy, Reached, Yielded, handedOut, Each}
 use Rattle.demands.proofs.Exactly.{exactly, taken-exactly, new-exactly, new-taken, new-track-exactly, new-track-taken, new-sheet-exactly, new-sheet-taken, point-exactly, point-taken, wrap-exactly, wrap-taken, wrap-refused, root-exactly, root-taken, kind-exactly, kind-taken, one-of, ends-so, refused-unwritten, refused-values, new-refused, new-track-refused, new-sheet-refused, point-refused}
 use Rattle.demands.proofs.Places.{some-bad, one-bad, turn-at, placed-of, placed-so}
 use Rattle.demands.proofs.Pivots.{number-exactly, pivot-by-open, innov-by-correction, range-by-steps, prediction-pivot, correction-opened-pivot, correction-closed-pivot, flat-correction-pivot}
-use Rattle.demands.proofs.Listed.{open-prediction-lists, open-correction-lists, close-prediction-lists, close-correction-lists, close-correction-flat-lists}
+use Rattle.demands.proofs.Listed.{open-prediction-lists, open-correction-lists, open-prediction-stepped-lists, open-correction-stepped-lists, close-prediction-lists, close-correction-lists, close-correction-flat-lists}
 use Rattle.demands.proofs.Table.{searches-so, ascending, kind-checked, steps-give, stage-exactly, states-first, kind-only, never-stale, never-param}
 use Rattle.demands.proofs.Turned.{turned-away-exactly, half-turn-exactly}
 use Rattle.demands.proofs.Sound.{sound, tidy, all-handed-finite}
-use Rattle.demands.proofs.Opening.{opening-prediction, opening-correction}
+use Rattle.demands.proofs.Opening.{opening-never}
+use Rattle.demands.proofs.SteppedExactly.{stepped-exactly, stepped-taken}
 use Rattle.demands.proofs.Unread.{kinds-unread}
 
 module _ (f : Format) where
@@ -171,22 +173,116 @@ module _ (f : Format) where
   so-do-the-others = one-of
 
   -- So 3 is given exactly when the call doesn't fit what is open, and n outside 1 to 8 gets 1 from every call that 3 doesn't stop.
-  pub stage-when : (s : Filter) (c : Call) → (step f s c .reply .refusal ≡ verdict STAGE) ↔ (fits c (s .track .stage) ≡ false)
+  pub stage-when : (s : Filter) (c : Call) → (step f s c .reply .refusal ≡ verdict STAGE) ↔ (fits c s ≡ false)
   stage-when = stage-exactly f
 
-  pub size-when : (s : Filter) (c : Call) → OutOfRange (record { value = s .sheet .n; from = 1; to = 8 }) → fits c (s .track .stage) ≡ true → step f s c .reply .refusal ≡ verdict SIZE
+  pub size-when : (s : Filter) (c : Call) → OutOfRange (record { value = s .sheet .n; from = 1; to = 8 }) → fits c s ≡ true → step f s c .reply .refusal ≡ verdict SIZE
   size-when = states-first f
 
-  -- 10 is given by the flat close alone, and exactly when a correction is open, there are 1 to 8 states and 1 to 4 measurements, the slices are long enough and their numbers finite, and one of the first n kinds is a turn.
+  -- 10 is given by the flat close alone, either way, and, with the whole list, exactly when a correction is so open, there are 1 to 8 states and 1 to 4 measurements, the slices are long enough and their numbers finite, and one of the first n kinds is a turn.
   pub kind-by-flat-alone : (s : Filter) (c : Call) → step f s c .reply .refusal .number ≡ 10 → IsFlat c
   kind-by-flat-alone = kind-only f
 
   pub kind-when : (s : Filter) (m : ℕ) (z r observed : List Float) → (step f s (closing (close-correction-flat m z r observed)) .reply .refusal ≡ verdict KIND) ↔ (Measurable s m z r observed × Some IsTurn (take (s .sheet .n) (s .sheet .kinds)))
   kind-when = turned-away-exactly f
 
-  -- The flat close never gives 4 or 6: stale doesn't stop it, and nothing that it is lent has to pass 6.
+  -- The flat close, either way, never gives 4 or 6: stale doesn't stop it, and nothing that it is lent has to pass 6.
+  pub stepped-flat-correction-never : (s : Filter) (m : ℕ) (z r : List Float) → let k = step f s (closing-stepped (close-correction-flat-stepped m z r)) .reply .refusal .number in (k ≢ 4) × (k ≢ 6)
+  stepped-flat-correction-never s m z r = let c = closing-stepped (close-correction-flat-stepped m z r) in (never-stale f s c refl, never-param f s c refl)
+
   pub flat-correction-never : (s : Filter) (m : ℕ) (z r observed : List Float) → let k = step f s (closing (close-correction-flat m z r observed)) .reply .refusal .number in (k ≢ 4) × (k ≢ 6)
   flat-correction-never s m z r observed = let c = closing (close-correction-flat m z r observed) in (never-stale f s c refl, never-param f s c refl)
+
+  -- ---- one point at a time (document 02, A7)
+
+  -- What the stepped calls ask, s being the filter as seen. The opens what the whole-list ones ask, but for the buffer;
+  pub stepped-open-asks : (s : Filter) → let a : Asks = record { fits = isShut (s .track .stage); sizes = record { value = s .sheet .n; from = 1; to = 8 } ∷ []; lent = []; stale = false; inputs = []; plain = []; params = [] } in
+      (asks s (setting open-prediction-stepped) ≡ a) × (asks s (setting open-correction-stepped) ≡ a)
+  stepped-open-asks s = (refl, refl)
+
+  -- an ask that a stepped call is open with an image still to come, and room for n numbers;
+  pub ask-asks : (s : Filter) (b : List Float) → asks s (stepping (ask b)) ≡ record {
+    fits = isStepped (s .track .stage) && leb (s .track .kept .at) (s .sheet .n + s .sheet .n);
+    sizes = record { value = s .sheet .n; from = 1; to = 8 } ∷ [];
+    lent = record { slice = b; needs = s .sheet .n } ∷ [];
+    stale = false;
+    inputs = [];
+    plain = [];
+    params = [];
+  }
+  ask-asks s b = refl
+
+  -- an image the same of its own sort of call, that its point has been asked for, and finite numbers: n in a prediction,
+  pub image-prediction-asks : (s : Filter) (v : List Float) → asks s (stepping (image-prediction v)) ≡ record {
+    fits = isPredictingStepped (s .track .stage) && (leb (s .track .kept .at) (s .sheet .n + s .sheet .n) && s .track .kept .asked);
+    sizes = record { value = s .sheet .n; from = 1; to = 8 } ∷ [];
+    lent = record { slice = v; needs = s .sheet .n } ∷ [];
+    stale = false;
+    inputs = record { name = Points; numbers = take (s .sheet .n) v } ∷ [];
+    plain = [];
+    params = [];
+  }
+  image-prediction-asks s v = refl
+
+  -- m of 1 to 4 in a correction, the first image's where one has named it (`named`);
+  pub image-correction-asks : (s : Filter) (m : ℕ) (v : List Float) → asks s (stepping (image-correction m v)) ≡ record {
+    fits = isCorrectingStepped (s .track .stage) && (leb (s .track .kept .at) (s .sheet .n + s .sheet .n) && s .track .kept .asked);
+    sizes = record { value = s .sheet .n; from = 1; to = 8 } ∷ record { value = m; from = 1; to = 4 } ∷ cond (eqb (s .track .kept .m) 0) [] (record { value = m; from = s .track .kept .m; to = s .track .kept .m } ∷ []);
+    lent = record { slice = v; needs = m } ∷ [];
+    stale = false;
+    inputs = record { name = Points; numbers = take m v } ∷ [];
+    plain = [];
+    params = [];
+  }
+  image-correction-asks s m v = refl
+
+  -- and a stepped close that its own sort of call is open with every image in, and no list: on any filter that the demands speak of the images that are in are no reason to refuse. Of a prediction that is all;
+  pub stepped-prediction-asks : (s : Filter) → steppedAsks s close-prediction-stepped ≡ record {
+    fits = isPredictingStepped (s .track .stage) && not (leb (s .track .kept .at) (s .sheet .n + s .sheet .n));
+    sizes = record { value = s .sheet .n; from = 1; to = 8 } ∷ [];
+    lent = [];
+    stale = false;
+    inputs = [];
+    plain = [];
+    params = [];
+  }
+  stepped-prediction-asks s = refl
+
+  -- of a correction m as the first image's, and of z, R and its kinds what the whole-list close asks;
+  pub stepped-correction-asks : (s : Filter) (m : ℕ) (z r : List Float) (kinds : List Kind) → steppedAsks s (close-correction-stepped m z r kinds) ≡ record {
+    fits = isCorrectingStepped (s .track .stage) && not (leb (s .track .kept .at) (s .sheet .n + s .sheet .n));
+    sizes = record { value = s .sheet .n; from = 1; to = 8 } ∷ named (s .track .kept) m ++ (record { value = m; from = 1; to = 4 } ∷ []);
+    lent = record { slice = z; needs = m } ∷ record { slice = r; needs = m * m } ∷ [];
+    stale = false;
+    inputs = record { name = Noise; numbers = take (m * m) r } ∷ record { name = Measurement; numbers = take m z } ∷ record { name = Lone; numbers = halves (take m kinds) } ∷ [];
+    plain = [];
+    params = asKinds (take m kinds);
+  }
+  stepped-correction-asks s m z r kinds = refl
+
+  pub stepped-flat-correction-asks : (s : Filter) (m : ℕ) (z r : List Float) → steppedAsks s (close-correction-flat-stepped m z r) ≡ record {
+    fits = isCorrectingStepped (s .track .stage) && not (leb (s .track .kept .at) (s .sheet .n + s .sheet .n));
+    sizes = record { value = s .sheet .n; from = 1; to = 8 } ∷ named (s .track .kept) m ++ (record { value = m; from = 1; to = 4 } ∷ []);
+    lent = record { slice = z; needs = m } ∷ record { slice = r; needs = m * m } ∷ [];
+    stale = false;
+    inputs = record { name = Noise; numbers = take (m * m) r } ∷ record { name = Measurement; numbers = take m z } ∷ record { name = Lone; numbers = [] } ∷ [];
+    plain = take (s .sheet .n) (s .sheet .kinds);
+    params = [];
+  }
+  stepped-flat-correction-asks s m z r = refl
+
+  pub stepped-close-exactly-when : {s : Filter} → Yielded f s → (c : SteppedClose) (r : Refusal) → (step f s (closing-stepped c) .reply .refusal ≡ verdict r) ↔ Due f (steppedAsks (seen s) c) (planned (plan f (seen s) (closing-stepped c))) r
+  stepped-close-exactly-when {s} y = stepped-exactly f s (sound f y)
+
+  pub stepped-close-taken-when : {s : Filter} → Yielded f s → (c : SteppedClose) → (step f s (closing-stepped c) .reply .refusal ≡ taken) ↔ ((d : Cause) → Applies f (steppedAsks (seen s) c) (planned (plan f (seen s) (closing-stepped c))) d → ⊥)
+  stepped-close-taken-when {s} y = stepped-taken f s (sound f y)
+
+  -- The steps of a stepped call are those of the whole-list one, of a close on the images; so its own numbers, 7, 8, 9 and the places beside them, come as below. (What else is said below of the whole-list opens and closes holds of the stepped ones by `open-is-whole` and `close-is-whole` in EitherWay.)
+  pub listed-at-stepped-open : (s : Filter) (b : List Float) → (planned (plan f s (setting open-prediction-stepped)) ≡ planned (plan f s (setting (open-prediction b)))) × (planned (plan f s (setting open-correction-stepped)) ≡ planned (plan f s (setting (open-correction b))))
+  listed-at-stepped-open s b = (open-prediction-stepped-lists f s ∙ sym (open-prediction-lists f s b), open-correction-stepped-lists f s ∙ sym (open-correction-lists f s b))
+
+  pub listed-at-stepped-close : (s : Filter) (c : SteppedClose) → plan f s (closing-stepped c) ≡ plan f s (closing (withList c (s .track .kept .images)))
+  listed-at-stepped-close s c = refl
 
   -- ---- places (document 02, A5)
 
@@ -197,22 +293,22 @@ module _ (f : Format) where
   pub one-first-bad : {s t : Slice} {i j : ℕ} {l : List Input} → FirstBad s i l → FirstBad t j l → NUMBER s i ≡ NUMBER t j
   one-first-bad = one-bad
 
-  -- what a call searches, in this order. A close of a correction: R, the observed points, z, and then the half-turns of its own kinds, of which the flat one has none. A call that sets, and the close of a prediction: the one slice that it is lent, or its lone values. The opens, abandon and the readings: nothing.
-  pub searched-by : (s : Filter) (c : Call) → asks s c .inputs ≡ searches (s .sheet .n) c
+  -- what a call searches, in this order. A close of a correction: R, the observed points, z, and then the half-turns of its own kinds, of which the flat one has none. A call that sets, an image, and the close of a prediction: the one slice that it is lent, or its lone values. The opens, asks, abandon and the readings: nothing. (A stepped close is said to search the images that are in, as its steps read them; they are finite, so that it is R, z and the half-turns that it finds bad: `stepped-close-exactly-when`.)
+  pub searched-by : (s : Filter) (c : Call) → asks s c .inputs ≡ searches s c
   searched-by = searches-so
 
   -- That is slice after slice in the order of their numbers, and so does New search (New of a pair takes the second start right after the first: `new-asks` in Pairs);
   pub searched-in-turn : (s : Filter) (c : Call) → Ascending 50 (asks s c .inputs)
-  searched-in-turn s c = rw (searches-so s c) (ascending (s .sheet .n) c)
+  searched-in-turn s c = rw (searches-so s c) (ascending s c)
 
   pub new-searched-in-turn : (n : ℕ) (x p q : List Float) (params : Params) → Ascending 50 (newAsks n (from x p ∷ []) q params .inputs)
   new-searched-in-turn n x p q params = (omega arith, (omega arith, (omega arith, (omega arith, tt))))
 
-  -- So one of 51 to 56 is given at place i exactly when nothing is refused before the search (`Free`), and that is the slice and the place of the first bad number. (Opens search nothing; on a filter that the demands don't speak of one may give 56 at 0, for an N without a root: `opening-prediction-never` below.)
-  pub number-when : (s : Filter) (c : Call) → (IsOpen c → ⊥) → (t : Slice) (i : ℕ) → (step f s c .reply .refusal ≡ verdict (NUMBER t i)) ↔ (Free f 4 s c × FirstBad t i (searches (s .sheet .n) c))
+  -- So one of 51 to 56 is given at place i exactly when nothing is refused before the search (`Free`), and that is the slice and the place of the first bad number. (Opens search nothing; on a filter that the demands don't speak of one may give 56 at 0, for an N without a root: `opening-gives-neither` below.)
+  pub number-when : (s : Filter) (c : Call) → (IsOpen c → ⊥) → (t : Slice) (i : ℕ) → (step f s c .reply .refusal ≡ verdict (NUMBER t i)) ↔ (Free f 4 s c × FirstBad t i (searches s c))
   number-when = number-exactly f
 
-  -- The first bad half-turn is told at the index of its own kind, the first that is a turn by a number that isn't finite: a plain one keeps its place. So a weighted close gives 56 at i exactly when a correction is open, sizes are in range, the slices are long enough and their numbers finite (`Measurable`), and the first such kind of its first m is that at i.
+  -- The first bad half-turn is told at the index of its own kind, the first that is a turn by a number that isn't finite: a plain one keeps its place. So a weighted close gives 56 at i exactly when a correction is open with the whole list, sizes are in range, the slices are long enough and their numbers finite (`Measurable`), and the first such kind of its first m is that at i.
   pub half-turn-place : (ks : List Kind) (i : ℕ) → FirstIn (halves ks) i ↔ FirstBadTurn ks i
   half-turn-place = turn-at
 
@@ -281,12 +377,9 @@ module _ (f : Format) where
   pub range-by-steps-alone : (s : Filter) (c : Call) → step f s c .reply .refusal .number ≡ 9 → IsOpen c ⊎ IsClose c
   range-by-steps-alone = range-by-steps f
 
-  -- and opening gives none of 51 to 56 and not 6, on any filter that the demands speak of.
-  pub opening-prediction-never : {s : Filter} → Yielded f s → (b : List Float) → Neither (step f s (setting (open-prediction b)) .reply .refusal .number)
-  opening-prediction-never = opening-prediction f
-
-  pub opening-correction-never : {s : Filter} → Yielded f s → (b : List Float) → Neither (step f s (setting (open-correction b)) .reply .refusal .number)
-  opening-correction-never = opening-correction f
+  -- and opening, of whichever sort, gives none of 51 to 56 and not 6, on any filter that the demands speak of.
+  pub opening-gives-neither : {s : Filter} → Yielded f s → {c : Call} → IsOpen c → Neither (step f s c .reply .refusal .number)
+  opening-gives-neither = opening-never f
 
   -- Measurement kinds from m up are not read: whatever stands there, the call is the same.
   pub kinds-from-m-unread : (s : Filter) (m : ℕ) (z r observed : List Float) (ks ls : List Kind) → m ≤ 4 → length ks ≡ 4 → length ls ≡ 4 → take m ks ≡ take m ls
@@ -323,10 +416,10 @@ module _ (f : Format) where
   pub every-number-is-finite : (s : Filter) → Yielded f s → (cs : List Call) → Each (λ t. allFinite (handedOut t) ≡ true) (told f s cs)
   every-number-is-finite = all-handed-finite f
 
-  -- such a filter is sound: finite where in use, +0 in unused places, its parameters and kinds past 56 and 6, kinds past its states plain, the weights that count those of its parameters, the points of an open call drawn from its x and P or the current ones (Settings has more on that);
+  -- such a filter is sound: finite where in use, +0 in unused places, its parameters and kinds past 56 and 6, kinds past its states plain, the weights that count those of its parameters, the points of an open call drawn from its x and P or the current ones (Settings has more on that), what a stepped call keeps up to 2n+1 finite images, one after the other, with +0 behind them;
   pub yielded-is-sound : {s : Filter} → Yielded f s → Sound f s
   yielded-is-sound = sound f
 
-  -- and one that New and calls yield is tidy too: its points and weights are finite with +0 in unused places while stale, and scratch is +0 while nothing is open.
+  -- and one that New and calls yield is tidy too: its points and weights are finite with +0 in unused places while stale, scratch is +0 while nothing is open, and nothing is kept but in a stepped call.
   pub reached-is-tidy : {s : Filter} → Reached f s → Sound f s × Tidy s
   reached-is-tidy = tidy f

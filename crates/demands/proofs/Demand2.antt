@@ -54,11 +54,11 @@ use Rattle.filter.specs.declared.Stage.{Stage}
 use Rattle.filter.specs.declared.Stage.the-variants.{Predicting, Correcting}
 use Rattle.filter.specs.declared.Weighted.{Weighted}
 use Rattle.filter.specs.Filters.{filter, withDrawn, closedWith}
-use Rattle.filter.specs.Calls.{SetCall, setting, closing, open-prediction, open-correction, close-prediction, close-correction, close-correction-flat, weightedFrom, flatFrom}
+use Rattle.filter.specs.Calls.{SetCall, setting, closing, closing-stepped, close-prediction-stepped, close-correction-stepped, close-correction-flat-stepped, open-prediction, open-correction, close-prediction, close-correction, close-correction-flat, weightedFrom, flatFrom}
 use Rattle.filter.specs.Steps.{step}
 use Rattle.demands.specs.Listed.{innovation, state, covariance}
 use Rattle.demands.proofs.Passed.{ran-made}
-use Rattle.demands.proofs.Accepted.{prediction-opened, correction-opened-afresh, correction-opened, prediction-closed, correction-closed, flat-correction-closed}
+use Rattle.demands.proofs.Accepted.{prediction-opened, correction-opened-afresh, correction-opened, prediction-closed, correction-closed, flat-correction-closed, stepped-closed}
 
 abbrev at : List Float → ℕ → Float
 at l i = getD l i nan
@@ -282,7 +282,7 @@ module _ (f : Format) where
     pub flat-keeps : (flat .n ≡ n) × (flat .m ≡ m) × (flat .x ≡ x) × (flat .p ≡ p) × (flat .z ≡ z)
     flat-keeps = (refl, refl, refl, refl, refl)
 
-  -- ---- The calls: every method of `Filter` (crate filter) is `step`, by the table in filter/specs/Calls.antt: which of these plans a call runs, on what, and what it installs
+  -- ---- The calls: every method of `Filter` (crate filter) and every public function of crate `stepped` is `step`, by the table in filter/specs/Calls.antt: which of these plans a call runs, on what, and what it installs
 
   -- A close of a correction gives its steps the sizes, the stored x and P, what was opened, and of z, R and the observed points the numbers in use, +0 past them; the weighted one also w0m by the parameters, the opened weights and the kinds.
   module _ (s : Filter) (m : ℕ) (z r observed : List Float) where
@@ -339,3 +339,21 @@ module _ (f : Format) where
   pub flat-correction-installs : (s : Filter) (m : ℕ) (z r observed : List Float) → step f s (closing (close-correction-flat m z r observed)) .reply .refusal .number ≡ 0
       → step f s (closing (close-correction-flat m z r observed)) .filter ≡ (let h = flatFrom f s m z r observed in closedWith s (s .track .«drawn_points») true (state f h) (covariance f h))
   flat-correction-installs = flat-correction-closed f
+
+  -- A stepped open (document 02, A7) leaves and draws the same at a stage of its own, and a stepped close is the whole-list close on the images that are in (`open-is-whole` and `close-is-whole` in EitherWay): it installs the images of a prediction,
+  pub stepped-prediction-installs : (s : Filter) → let c = closing-stepped close-prediction-stepped in step f s c .reply .refusal .number ≡ 0
+      → step f s c .filter
+      ≡ (let points = front (pointNumbers (s .sheet .n)) (s .track .kept .images) (zeros 136) in
+      let mean = meanOf f points (s .sheet .n) (s .sheet .n + s .sheet .n) (w0mOf f (s .sheet .n) (s .sheet .params)) (s .track .«drawn_weights») (s .sheet .kinds) in
+      let dx = deviationsOf f points (s .sheet .n) (s .sheet .n + s .sheet .n) mean (s .sheet .kinds) in
+      closedWith s points false mean (plusOf f (s .sheet .n * s .sheet .n) (s .sheet .q) (spreadOf f dx (s .sheet .n) dx (s .sheet .n) (s .track .«drawn_weights») (s .sheet .n + s .sheet .n))))
+  stepped-prediction-installs s = stepped-closed f s close-prediction-stepped
+
+  -- and the opened points in a correction.
+  pub stepped-correction-installs : (s : Filter) (m : ℕ) (z r : List Float) (kinds : List Kind) → let c = closing-stepped (close-correction-stepped m z r kinds) in step f s c .reply .refusal .number ≡ 0
+      → step f s c .filter ≡ (let h = weightedFrom f s m z r kinds (s .track .kept .images) in closedWith s (s .track .«drawn_points») true (state f h) (covariance f h))
+  stepped-correction-installs s m z r kinds = stepped-closed f s (close-correction-stepped m z r kinds)
+
+  pub stepped-flat-correction-installs : (s : Filter) (m : ℕ) (z r : List Float) → let c = closing-stepped (close-correction-flat-stepped m z r) in step f s c .reply .refusal .number ≡ 0
+      → step f s c .filter ≡ (let h = flatFrom f s m z r (s .track .kept .images) in closedWith s (s .track .«drawn_points») true (state f h) (covariance f h))
+  stepped-flat-correction-installs s m z r = stepped-closed f s (close-correction-flat-stepped m z r)

@@ -63,9 +63,9 @@ drew [] = false
 drew (t ∷ ts) = t .reply .given are (int 2 ∷ int 4 ∷ int 0 ∷ [])
 
 pub record Computed : Type 0 where
-  -- the leftovers of the two differ: points, weights, and scratch
-  pub first-left : (leftovers (at-first binary64 .track) are (int 0 ∷ int 0 ∷ int 0 ∷ int 0 ∷ [])) ≡ true
-  pub will-left : (leftovers (at-will binary64 .track) are (int 3 ∷ int 7 ∷ int 6 ∷ int 7 ∷ [])) ≡ true
+  -- the leftovers of the two differ: points, weights, and scratch, what a stepped call keeps among it
+  pub first-left : (leftovers (at-first binary64 .track) are (int 0 ∷ int 0 ∷ int 0 ∷ int 0 ∷ int 0 ∷ [])) ≡ true
+  pub will-left : (leftovers (at-will binary64 .track) are (int 3 ∷ int 7 ∷ int 6 ∷ int 7 ∷ int 9 ∷ [])) ≡ true
   -- what a run tells is not constant: two predictions on one filter that end at different x
   pub ends-at-2 : (lastX (told binary64 (at-will binary64) (predicted (int 2) (int 4) (int 0))) are (int 2 ∷ [])) ≡ true
   pub ends-at-3 : (lastX (told binary64 (at-will binary64) (predicted (int 3) (int 5) (int 1))) are (int 3 ∷ [])) ≡ true

@@ -11,11 +11,12 @@ use Rattle.filter.specs.declared.Sheet.{Sheet}
 use Rattle.filter.specs.declared.Track.{Track}
 use Rattle.filter.specs.declared.Filter.{Filter}
 use Rattle.filter.specs.declared.Stage.{Stage}
-use Rattle.filter.specs.declared.Stage.the-variants.{Shut, Predicting, Correcting}
+use Rattle.filter.specs.declared.Stage.the-variants.{Shut, Predicting, Correcting, PredictingStepped, CorrectingStepped}
 use Rattle.filter.specs.Asked.{within, inRange}
-use Rattle.filter.specs.Filters.{filter, isShut, seenOf, seen, Writing, q-set, params-set, kinds-set, Setting, x-set, p-set, opened-prediction, opened-correction, Change, writes, sets, closes, abandons, reads, marked, set, shut, sheetAfter, trackAfter, changed, abandoned}
-use Rattle.filter.specs.Calls.{Call, writing, setting, closing, abandon, reading, fits, asks, Done, plan}
+use Rattle.filter.specs.Filters.{filter, isShut, seenOf, seen, Writing, q-set, params-set, kinds-set, Setting, x-set, p-set, opened-prediction, opened-correction, opened-prediction-stepped, opened-correction-stepped, Change, writes, sets, closes, keeps, abandons, reads, marked, set, shut, sheetAfter, trackAfter, changed, abandoned}
+use Rattle.filter.specs.Calls.{Call, writing, setting, stepping, closing, closing-stepped, abandon, reading, fits, asks, Done, plan}
 use Rattle.filter.specs.Steps.{outcome, Reply, stepped, step}
+use Rattle.stepped.proofs.Seen.{fits-seen}
 use Rattle.demands.specs.Runs.{tells, told, ranTo, AlikeTracks, Alike, StaysOpen, Struck, none-left, call-kept, refused-struck, opening-struck, rest}
 use Rattle.demands.proofs.Rows.{two-ways}
 use Rattle.demands.proofs.Exactly.{refused-nothing}
@@ -28,27 +29,34 @@ cond-twice : {A : Type 0} (b : Bool) (x y : A) → cond b x (cond b x y) ≡ con
 cond-twice true x y = refl
 cond-twice false x y = refl
 
+cond-again : {A : Type 0} (b : Bool) (x y : A) → cond b (cond b x y) y ≡ cond b x y
+cond-again true x y = refl
+cond-again false x y = refl
+
 seen-twice : (s : Filter) → seen (seen s) ≡ seen s
-seen-twice s = simp cond-twice
+seen-twice s = simp (cond-twice, cond-again)
 
 -- each change reads of a filter what is seen
 marked-seen : (t : Track) (c : Writing) → seenOf (marked t c) ≡ seenOf (marked (seenOf t) c)
-marked-seen t (q-set v) = simp cond-twice
-marked-seen t (params-set v) = simp cond-twice
-marked-seen t (kinds-set v) = simp cond-twice
+marked-seen t (q-set v) = simp (cond-twice, cond-again)
+marked-seen t (params-set v) = simp (cond-twice, cond-again)
+marked-seen t (kinds-set v) = simp (cond-twice, cond-again)
 
 set-seen : (t : Track) (c : Setting) → seenOf (set t c) ≡ seenOf (set (seenOf t) c)
-set-seen t (x-set v) = simp cond-twice
-set-seen t (p-set v) = simp cond-twice
+set-seen t (x-set v) = simp (cond-twice, cond-again)
+set-seen t (p-set v) = simp (cond-twice, cond-again)
 set-seen t (opened-prediction d) = simp cond-twice
 set-seen t (opened-correction d) = simp cond-twice
+set-seen t (opened-prediction-stepped d) = simp cond-twice
+set-seen t (opened-correction-stepped d) = simp cond-twice
 
 track-seen : (t : Track) (c : Change) → seenOf (trackAfter t c) ≡ seenOf (trackAfter (seenOf t) c)
 track-seen t (writes c) = marked-seen t c
 track-seen t (sets c) = set-seen t c
 track-seen t (closes c) = refl
+track-seen t (keeps k) = simp cond-twice
 track-seen t abandons = simp cond-twice
-track-seen t reads = simp cond-twice
+track-seen t reads = simp (cond-twice, cond-again)
 
 changed-seen : (s : Filter) (c : Change) → seen (changed s c) ≡ seen (changed (seen s) c)
 changed-seen s c = ap (filter (sheetAfter (s .sheet) c)) (track-seen (s .track) c)
@@ -103,6 +111,8 @@ shut-is : (t : Stage) → isShut t ≡ true → t ≡ Shut
 shut-is Shut h = refl
 shut-is Predicting h = absurd (two-ways h refl)
 shut-is Correcting h = absurd (two-ways h refl)
+shut-is PredictingStepped h = absurd (two-ways h refl)
+shut-is CorrectingStepped h = absurd (two-ways h refl)
 
 -- with nothing open, scratch is all that an abandoned filter differs in
 pub abandoned-seen : (s : Filter) → isShut (s .track .stage) ≡ true → seen (abandoned s) ≡ seen s
@@ -119,36 +129,41 @@ setting-abandoned t (x-set v) h k = absurd (two-ways h k)
 setting-abandoned t (p-set v) h k = absurd (two-ways h k)
 setting-abandoned t (opened-prediction d) h k = refl
 setting-abandoned t (opened-correction d) h k = refl
+setting-abandoned t (opened-prediction-stepped d) h k = refl
+setting-abandoned t (opened-correction-stepped d) h k = refl
 
 opened-abandoned : (s : Filter) (c : Change) → isShut (s .track .stage) ≡ true → isShut (changed s c .track .stage) ≡ false → (abandoned (changed s c) ≡ abandoned s) × (changed s c .sheet ≡ s .sheet)
 opened-abandoned s (writes c) h k = absurd (two-ways (marked-shut (s .track) c h) k)
 opened-abandoned s (sets c) h k = (ap (filter (s .sheet)) (setting-abandoned (s .track) c h k), refl)
 opened-abandoned s (closes c) h k = absurd (two-ways refl k)
+opened-abandoned s (keeps u) h k = absurd (two-ways h k)
 opened-abandoned s abandons h k = absurd (two-ways refl k)
 opened-abandoned s reads h k = absurd (two-ways h k)
 
--- a change of a call that fits, where something is open before and after it
-open-unchanged : (s : Filter) (c : Call) (d : Change) → Own c d → fits c (s .track .stage) ≡ true → isShut (s .track .stage) ≡ false → isShut (changed s d .track .stage) ≡ false → changed s d ≡ s
+-- a change of a call that fits, where something is open before and after it, is one of what is kept
+open-unchanged : (s : Filter) (c : Call) (d : Change) → Own c d → fits c s ≡ true → isShut (s .track .stage) ≡ false → isShut (changed s d .track .stage) ≡ false → abandoned (changed s d) ≡ abandoned s
 open-unchanged s (writing c) d o g h k = absurd (two-ways g h)
 open-unchanged s (setting c) d o g h k = absurd (two-ways g h)
+open-unchanged s (stepping c) d o g h k = rw (o .1)
 open-unchanged s (closing c) d o g h k = absurd (two-ways refl (rw (o .1) at k))
+open-unchanged s (closing-stepped c) d o g h k = absurd (two-ways refl (rw (o .1) at k))
 open-unchanged s abandon d o g h k = absurd (two-ways refl (rw o at k))
 open-unchanged s (reading c) d o g h k = rw o
 
 module _ (f : Format) (s : Filter) where
   -- of a step: what holds where it is refused, and of a change of the call's own sort once its line of the table is passed
-  pub step-cases : (c : Call) (P : Filter → Type 0) → P s → ((d : Change) → Own c d → fits c (s .track .stage) ≡ true → inRange 1 8 (s .sheet .n) ≡ true → P (changed s d)) → P (step f s c .filter)
+  pub step-cases : (c : Call) (P : Filter → Type 0) → P s → ((d : Change) → Own c d → fits c s ≡ true → inRange 1 8 (s .sheet .n) ≡ true → P (changed s d)) → P (step f s c .filter)
   unfolding step
   step-cases c P left made =
       let line = regular f (seen s) c in
       by-cases (λ o. P (stepped s o .filter)) (λ r. left) f (asks (seen s) c) (run (plan f (seen s) c))
       (λ h.
       run-cases (λ (d : Done). Own c (d .change)) (λ o. P (stepped s o .filter)) (λ r. left) (plan f (seen s) c) (line .change)
-      (λ d o. made (d .change) o (sym (line .fitting) ∙ h .fits) (subst (Pass within) (line .states) (h .sizes) .0)))
+      (λ d o. made (d .change) o (sym (fits-seen s c) ∙ sym (line .fitting) ∙ h .fits) (subst (Pass within) (line .states) (h .sizes) .0)))
 
-  -- while a call is open, a call after which one still is changes nothing
-  pub open-same : (c : Call) → isShut (s .track .stage) ≡ false → isShut (step f s c .filter .track .stage) ≡ false → step f s c .filter ≡ s
-  open-same c h = step-cases c (λ t. isShut (t .track .stage) ≡ false → t ≡ s) (λ k. refl) (λ d o g n k. open-unchanged s c d o g h k)
+  -- while a call is open, a call after which one still is changes nothing but scratch
+  pub open-same : (c : Call) → isShut (s .track .stage) ≡ false → isShut (step f s c .filter .track .stage) ≡ false → abandoned (step f s c .filter) ≡ abandoned s
+  open-same c h = step-cases c (λ t. isShut (t .track .stage) ≡ false → abandoned t ≡ abandoned s) (λ k. refl) (λ d o g n k. open-unchanged s c d o g h k)
 
   -- a call that opens one, where none was open
   pub opens : (c : Call) → isShut (s .track .stage) ≡ true → isShut (step f s c .filter .track .stage) ≡ false
@@ -169,12 +184,17 @@ module _ (f : Format) where
   open-now s [] h = h
   open-now s (c ∷ cs) h = h .0
 
-  stays-same : (s : Filter) (cs : List Call) → StaysOpen f s cs → ranTo f s cs ≡ s
+  stays-open : (s : Filter) (cs : List Call) → StaysOpen f s cs → isShut (ranTo f s cs .track .stage) ≡ false
+  unfolding ranTo
+  stays-open s [] h = h
+  stays-open s (c ∷ cs) h = stays-open (step f s c .filter) cs (h .1)
+
+  stays-same : (s : Filter) (cs : List Call) → StaysOpen f s cs → abandoned (ranTo f s cs) ≡ abandoned s
   unfolding ranTo
   stays-same s [] h = refl
   stays-same s (c ∷ cs) h = stays-same (step f s c .filter) cs (h .1) ∙ open-same f s c (h .0) (open-now (step f s c .filter) cs (h .1))
 
-  ran-append : (s : Filter) (cs ds : List Call) → ranTo f s (cs ++ ds) ≡ ranTo f (ranTo f s cs) ds
+  pub ran-append : (s : Filter) (cs ds : List Call) → ranTo f s (cs ++ ds) ≡ ranTo f (ranTo f s cs) ds
   unfolding ranTo
   ran-append s [] ds = refl
   ran-append s (c ∷ cs) ds = ran-append (step f s c .filter) cs ds
@@ -186,7 +206,8 @@ module _ (f : Format) where
       let t = step f s c .filter in
       let k = open-now t mid st in
       let o = opens f s c h k in
-      ran-append t mid (abandon ∷ []) ∙ ap (λ (z : Filter). step f z abandon .filter) (stays-same t mid st) ∙ abandon-open f t k (o .1) ∙ o .0
+      let e = stays-same t mid st in
+      ran-append t mid (abandon ∷ []) ∙ abandon-open f (ranTo f t mid) (stays-open t mid st) (ap (λ (z : Filter). inRange 1 8 (z .sheet .n)) e ∙ o .1) ∙ e ∙ o .0
 
   -- what the whole run on s tells at the calls that are not struck is what the struck run tells, on any filter that is seen alike
   struck-same : (t : Filter) {s : Filter} {cs ds : List Call} → seen s ≡ seen t → (k : Struck f s cs ds) → rest f k ≡ told f t ds

@@ -13,8 +13,8 @@ use Rattle.sigma.specs.Weights.{scaleOf, w0mOf, weightsOf}
 use Rattle.sigma.specs.Draw.{pointNumbers, drawPlan}
 use Rattle.correction.specs.Correct.{applyPlan}
 use Rattle.filter.specs.declared.Filter.{Filter}
-use Rattle.filter.specs.Filters.{opened-prediction, opened-correction}
-use Rattle.filter.specs.Calls.{setting, closing, open-prediction, open-correction, close-prediction, close-correction, close-correction-flat, opened, closed, draws, plan, weightedFrom, flatFrom}
+use Rattle.filter.specs.Filters.{opened-prediction, opened-correction, opened-prediction-stepped, opened-correction-stepped}
+use Rattle.filter.specs.Calls.{setting, closing, open-prediction, open-correction, open-prediction-stepped, open-correction-stepped, close-prediction, close-correction, close-correction-flat, Done, opened, openedStepped, closed, draws, plan, weightedFrom, flatFrom}
 use Rattle.filter.proofs.Closing.{predicting}
 use Rattle.demands.specs.Listed.{listedAtOpen, listedAtPrediction, listedAtCorrection}
 
@@ -26,13 +26,19 @@ module _ (f : Format) (s : Filter) where
   pub open-prediction-lists : (b : List Float) → planned (plan f s (setting (open-prediction b))) ≡ listedAtOpen f (s .sheet .n) (s .track .x) (s .track .p) (scaleOf f (s .sheet .n) (s .sheet .params))
   open-prediction-lists b = planned-mapped (opened opened-prediction (s .sheet .n) (weightsOf f (s .sheet .n) (s .sheet .params))) (drawing f s)
 
+  pub open-prediction-stepped-lists : planned (plan f s (setting open-prediction-stepped)) ≡ listedAtOpen f (s .sheet .n) (s .track .x) (s .track .p) (scaleOf f (s .sheet .n) (s .sheet .params))
+  open-prediction-stepped-lists = planned-mapped (openedStepped opened-prediction-stepped (weightsOf f (s .sheet .n) (s .sheet .params))) (drawing f s)
+
   -- not stale, nothing is drawn
+  current-lists : (to : List Float → List Float → Done) (t : Bool) → planned (cond t (draws f to s) (finish (to (s .track .weights) (s .track .points)))) ≡ cond t (listedAtOpen f (s .sheet .n) (s .track .x) (s .track .p) (scaleOf f (s .sheet .n) (s .sheet .params))) []
+  current-lists to true = planned-mapped (to (weightsOf f (s .sheet .n) (s .sheet .params))) (drawing f s)
+  current-lists to false = refl
+
   pub open-correction-lists : (b : List Float) → planned (plan f s (setting (open-correction b))) ≡ cond (s .track .stale) (listedAtOpen f (s .sheet .n) (s .track .x) (s .track .p) (scaleOf f (s .sheet .n) (s .sheet .params))) []
-  open-correction-lists b = go (s .track .stale)
-    where
-      go : (t : Bool) → planned (cond t (draws f opened-correction s) (finish (opened opened-correction (s .sheet .n) (s .track .weights) (s .track .points)))) ≡ cond t (listedAtOpen f (s .sheet .n) (s .track .x) (s .track .p) (scaleOf f (s .sheet .n) (s .sheet .params))) []
-      go true = planned-mapped (opened opened-correction (s .sheet .n) (weightsOf f (s .sheet .n) (s .sheet .params))) (drawing f s)
-      go false = refl
+  open-correction-lists b = current-lists (opened opened-correction (s .sheet .n)) (s .track .stale)
+
+  pub open-correction-stepped-lists : planned (plan f s (setting open-correction-stepped)) ≡ cond (s .track .stale) (listedAtOpen f (s .sheet .n) (s .track .x) (s .track .p) (scaleOf f (s .sheet .n) (s .sheet .params))) []
+  open-correction-stepped-lists = current-lists (openedStepped opened-correction-stepped) (s .track .stale)
 
   pub close-prediction-lists : (v : List Float)
       → planned (plan f s (closing (close-prediction v))) ≡ listedAtPrediction f (s .sheet .n) (front (pointNumbers (s .sheet .n)) v (zeros 136)) (w0mOf f (s .sheet .n) (s .sheet .params)) (s .track .«drawn_weights») (s .sheet .kinds) (s .sheet .q)

@@ -14,19 +14,18 @@ use Rattle.floats.specs.Search.{searched}
 use Rattle.floats.proofs.Refusals.{slice-above}
 use Rattle.root.specs.Definition.{rooted}
 use Rattle.root.proofs.Answers.{above-rooted}
-use Rattle.matrix.specs.Results.{worked, listed, Plan, run}
+use Rattle.matrix.specs.Results.{worked, listed, Plan, finish, run}
 use Rattle.matrix.specs.Factor.{factorOf}
 use Rattle.matrix.proofs.FactorLaws.{Stopped, at-pivot, at-entry, is-stopped}
 use Rattle.matrix.proofs.Mapped.{run-mapped}
 use Rattle.sigma.specs.Weights.{scaleOf, weightsOf, weightsPass}
 use Rattle.sigma.specs.Draw.{pointNumbers, pointsOf, drawPlan}
 use Rattle.filter.specs.declared.Filter.{Filter}
-use Rattle.filter.specs.declared.Weighted.{Weighted}
 use Rattle.filter.specs.Asked.{inRange}
-use Rattle.filter.specs.Filters.{isShut, seen, Setting, opened-prediction, opened-correction}
-use Rattle.filter.specs.Calls.{setting, open-prediction, open-correction, Done, opened, draws, plan}
+use Rattle.filter.specs.Filters.{isShut, seen, opened-prediction, opened-correction, opened-prediction-stepped, opened-correction-stepped}
+use Rattle.filter.specs.Calls.{Call, Done, opened, openedStepped, draws, drawsCurrent}
 use Rattle.filter.specs.Steps.{stepped, step}
-use Rattle.demands.specs.Rows.{Neither}
+use Rattle.demands.specs.Rows.{IsOpen, of-prediction, of-correction, of-prediction-stepped, of-correction-stepped, Neither}
 use Rattle.demands.specs.Sound.{Sound, Yielded}
 use Rattle.demands.proofs.Passed.{both}
 use Rattle.demands.proofs.Listed.{drawing}
@@ -81,10 +80,10 @@ module _ (f : Format) where
       rw g (onward-late (worked (listed (pointNumbers n) (pointsOf f n x l _))) _ (listed-late (allFinite (take (pointNumbers n) (pointsOf f n x l _))) _) (λ v. tt)))
 
   module _ (s : Filter) (o : Sound f s) (h : 1 ≤ s .sheet .n) where
-    draws-late : (to : Weighted → Setting) → Late (run (draws f to (seen s)))
+    draws-late : (to : List Float → List Float → Done) → Late (run (draws f to (seen s)))
     unfolding weightsPass
     draws-late to =
-        rw (run-mapped (opened to (s .sheet .n) (weightsOf f (s .sheet .n) (s .sheet .params))) (drawing f (seen s)))
+        rw (run-mapped (to (weightsOf f (s .sheet .n) (s .sheet .params))) (drawing f (seen s)))
         (onward-late (run (drawing f (seen s))) _
         (draw-late (s .sheet .n) (s .track .x) (s .track .p) (scaleOf f (s .sheet .n) (s .sheet .params)) (o .small) (above-rooted (scaleOf f (s .sheet .n) (s .sheet .params)) (both {a = aboveZero (scaleOf f (s .sheet .n) (s .sheet .params))} (o .passed h) .0)))
         (λ v. tt))
@@ -93,21 +92,25 @@ module _ (f : Format) where
     sized : inRange 1 8 (s .sheet .n) && true ≡ true → 1 ≤ s .sheet .n
     sized h = in-range 1 8 (s .sheet .n) (both {a = inRange 1 8 (s .sheet .n)} h .0) .0
 
-    sound-prediction : (b : List Float) → Neither (step f s (setting (open-prediction b)) .reply .refusal .number)
-    unfolding step searched
-    sound-prediction b = early s (isShut (s .track .stage)) (inRange 1 8 (s .sheet .n) && true) (leb (pointNumbers (s .sheet .n)) (length b) && true) (run (draws f opened-prediction (seen s))) (λ h. draws-late s o (sized h) opened-prediction)
-
-    sound-correction : (b : List Float) → Neither (step f s (setting (open-correction b)) .reply .refusal .number)
-    unfolding step searched
-    sound-correction b = early s (isShut (s .track .stage)) (inRange 1 8 (s .sheet .n) && true) (leb (pointNumbers (s .sheet .n)) (length b) && true) (run (plan f (seen s) (setting (open-correction b)))) (λ h. either (s .track .stale) _ _ (draws-late s o (sized h) opened-correction) tt)
+    current-late : (to : List Float → List Float → Done) → 1 ≤ s .sheet .n → Late (run (drawsCurrent f to (seen s)))
+    unfolding run
+    current-late to h = either (s .track .stale) (draws f to (seen s)) (finish (to (seen s .track .weights) (seen s .track .points))) (draws-late s o h to) tt
       where
         either : (t : Bool) (p q : Plan Done) → Late (run p) → Late (run q) → Late (run (cond t p q))
         either true p q i j = i
         either false p q i j = j
 
-  -- OPENING NEVER ANSWERS ONE OF 51 TO 56, NOR 6
-  pub opening-prediction : {s : Filter} → Yielded f s → (b : List Float) → Neither (step f s (setting (open-prediction b)) .reply .refusal .number)
-  opening-prediction {s} y b = sound-prediction s (sound f y) b
+    -- 3, 1 or 2 in front of the steps; a stepped open is lent nothing, so that it has no 2
+    late-open : (v : Bool) (q : Outcome Done) → (1 ≤ s .sheet .n → Late q) → Neither (stepped s (unless (isShut (s .track .stage)) STAGE (unless (inRange 1 8 (s .sheet .n) && true) SIZE (unless v SHORT q))) .reply .refusal .number)
+    late-open v q late = early s (isShut (s .track .stage)) (inRange 1 8 (s .sheet .n) && true) v q (λ h. late (sized h))
 
-  pub opening-correction : {s : Filter} → Yielded f s → (b : List Float) → Neither (step f s (setting (open-correction b)) .reply .refusal .number)
-  opening-correction {s} y b = sound-correction s (sound f y) b
+    sound-open : {c : Call} → IsOpen c → Neither (step f s c .reply .refusal .number)
+    unfolding step searched
+    sound-open (of-prediction {b = b}) = late-open (leb (pointNumbers (s .sheet .n)) (length b) && true) (run (draws f (opened opened-prediction (s .sheet .n)) (seen s))) (λ h. draws-late s o h (opened opened-prediction (s .sheet .n)))
+    sound-open (of-correction {b = b}) = late-open (leb (pointNumbers (s .sheet .n)) (length b) && true) (run (drawsCurrent f (opened opened-correction (s .sheet .n)) (seen s))) (current-late (opened opened-correction (s .sheet .n)))
+    sound-open of-prediction-stepped = late-open true (run (draws f (openedStepped opened-prediction-stepped) (seen s))) (λ h. draws-late s o h (openedStepped opened-prediction-stepped))
+    sound-open of-correction-stepped = late-open true (run (drawsCurrent f (openedStepped opened-correction-stepped) (seen s))) (current-late (openedStepped opened-correction-stepped))
+
+  -- OPENING NEVER ANSWERS ONE OF 51 TO 56, NOR 6
+  pub opening-never : {s : Filter} → Yielded f s → {c : Call} → IsOpen c → Neither (step f s c .reply .refusal .number)
+  opening-never {s} y i = sound-open s (sound f y) i

@@ -12,11 +12,10 @@ use Rattle.floats.proofs.Refusals.{number-above, number-of}
 use Rattle.matrix.specs.Results.{finish, planned, run}
 use Rattle.sigma.specs.declared.Params.{Params}
 use Rattle.filter.specs.Filters.{isShut, seen, writes, written, marked}
-use Rattle.filter.specs.Calls.{SheetCall, set-q, set-params, set-kind, ReadCall, read-q, read-params, Call, writing, setting, closing, abandon, reading, fits, Done, writingOf, plan}
+use Rattle.filter.specs.Calls.{SheetCall, set-q, set-params, set-kind, ReadCall, read-q, read-params, Call, writing, setting, stepping, closing, closing-stepped, abandon, reading, fits, Done, writingOf, plan}
 use Rattle.filter.specs.Steps.{Reply, Stepped, stepped, step, paramsRead}
 use Rattle.filter.specs.New.{empty}
 use Rattle.filter.specs.declared.Track.{Track}
-use Rattle.filter.specs.declared.Stage.the-variants.{Shut}
 use Rattle.pairs.specs.declared.Pair.{Pair}
 use Rattle.pairs.specs.declared.Side.{Side}
 use Rattle.pairs.specs.declared.Side.the-variants.{First, Second}
@@ -26,6 +25,7 @@ use Rattle.demands.specs.Rows.{here, OutOfRange, Cause, stage, size, sho
 use Rattle.demands.specs.Rows as Row
 use Rattle.demands.specs.Settings.{sheetMarks}
 use Rattle.demands.specs.PairRuns.{other}
+use Rattle.stepped.proofs.Seen.{fits-seen}
 use Rattle.demands.proofs.Rows.{two-ways}
 use Rattle.demands.proofs.Exactly.{one-of, unchanged, stepped-told, plan-ends, guarded-exactly, guarded-taken, no-first}
 use Rattle.demands.proofs.Passed.{both, by-cases, ran-finish}
@@ -133,6 +133,8 @@ module _ (f : Format) (p : Pair) (c : SheetCall) where
 pub stage-of : (f : Format) (p : Pair) (w : Side) (c : Call) → (pairStep f p w c .reply .refusal ≡ verdict STAGE) ↔ (pairFits p w c ≡ false)
 stage-of f p w (writing c) = sheet-stage f p w c
 stage-of f p w (setting c) = rw (reply-is f p w (setting c), solo-is f p w (setting c) refl) (stage-exactly f (solo p w) (setting c))
+stage-of f p w (stepping c) = rw (reply-is f p w (stepping c), solo-is f p w (stepping c) refl, fits-seen (solo p w) (stepping c)) (stage-exactly f (solo p w) (stepping c))
+stage-of f p w (closing-stepped c) = rw (reply-is f p w (closing-stepped c), solo-is f p w (closing-stepped c) refl, fits-seen (solo p w) (closing-stepped c)) (stage-exactly f (solo p w) (closing-stepped c))
 stage-of f p w (closing c) = rw (reply-is f p w (closing c), solo-is f p w (closing c) refl) (stage-exactly f (solo p w) (closing c))
 stage-of f p w abandon = rw (reply-is f p w abandon, solo-is f p w abandon refl) (stage-exactly f (solo p w) abandon)
 stage-of f p w (reading c) = rw (reply-is f p w (reading c), solo-is f p w (reading c) refl) (stage-exactly f (solo p w) (reading c))
@@ -177,9 +179,9 @@ module _ (f : Format) where
   on-empty-step Second c = reply-is f emptyPair Second c ∙ ap (λ (t : Stepped). t .reply) (side-barred f emptyPair Second c ∙ ap (λ (b : Bool). cond b (stepped empty (refused STAGE)) (step f empty c)) (and-false (onSheet c)))
 
   empty-refused : (c : Call) → step f empty c .reply .refusal .number ≢ 0
-  empty-refused c z = go (fits c Shut) refl
+  empty-refused c z = go (fits c empty) refl
     where
-      go : (b : Bool) → fits c Shut ≡ b → ⊥
+      go : (b : Bool) → fits c empty ≡ b → ⊥
       go true h = let e = states-first f empty c (inl (omega arith)) h in omega (arith, number-of e, z)
       go false h = let e = stage-exactly f empty c .1 h in omega (arith, number-of e, z)
 

@@ -90,10 +90,10 @@ predicts = by First opens ∷ by First (closing (close-prediction (int 2 ∷ int
 
 pub record Computed : Type 0 where
   -- the leftovers of the two differ, on both sides
-  pub fresh-left : (leftovers (both .first) are (int 0 ∷ int 0 ∷ int 0 ∷ int 0 ∷ [])) ≡ true
-  pub fresh-left-too : (leftovers (both .second) are (int 0 ∷ int 0 ∷ int 0 ∷ int 0 ∷ [])) ≡ true
-  pub will-left : (leftovers (at-will .first) are (int 3 ∷ int 7 ∷ int 6 ∷ int 7 ∷ [])) ≡ true
-  pub will-left-too : (leftovers (at-will .second) are (int 3 ∷ int 5 ∷ int 6 ∷ int 5 ∷ [])) ≡ true
+  pub fresh-left : (leftovers (both .first) are (int 0 ∷ int 0 ∷ int 0 ∷ int 0 ∷ int 0 ∷ [])) ≡ true
+  pub fresh-left-too : (leftovers (both .second) are (int 0 ∷ int 0 ∷ int 0 ∷ int 0 ∷ int 0 ∷ [])) ≡ true
+  pub will-left : (leftovers (at-will .first) are (int 3 ∷ int 7 ∷ int 6 ∷ int 7 ∷ int 9 ∷ [])) ≡ true
+  pub will-left-too : (leftovers (at-will .second) are (int 3 ∷ int 5 ∷ int 6 ∷ int 5 ∷ int 9 ∷ [])) ≡ true
   -- what they tell is not constant: the two sides of the second open at different points
   pub first-opens : (lastGiven (pairTold binary64 at-will (by First opens ∷ [])) are (int 2 ∷ int 4 ∷ int 0 ∷ [])) ≡ true
   pub second-opens : (lastGiven (pairTold binary64 at-will (by First opens ∷ by Second opens ∷ [])) are (int 3 ∷ int 7 ∷ minus 1 ∷ [])) ≡ true

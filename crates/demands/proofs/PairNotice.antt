@@ -10,7 +10,7 @@ use Rattle.floats.specs.Refusal.{STAGE, refused}
 use Rattle.filter.specs.declared.Track.{Track}
 use Rattle.filter.specs.declared.Filter.{Filter}
 use Rattle.filter.specs.Filters.{filter, isShut, written, marked}
-use Rattle.filter.specs.Calls.{SheetCall, set-q, set-params, set-kind, Call, writing, setting, closing, abandon, reading, writingOf}
+use Rattle.filter.specs.Calls.{SheetCall, set-q, set-params, set-kind, Call, writing, setting, stepping, closing, closing-stepped, abandon, reading, writingOf}
 use Rattle.filter.specs.Steps.{Stepped, stepped, step}
 use Rattle.pairs.specs.declared.Pair.{Pair}
 use Rattle.pairs.specs.declared.Side.{Side}
@@ -55,6 +55,8 @@ module _ (f : Format) where
         at First = marked-is c (p .first) p
         at Second = marked-is c (p .second) p
     partner-marks (setting c) = other-track (setting c) (unreached f p v (setting c) w (rw e))
+    partner-marks (stepping c) = other-track (stepping c) (unreached f p v (stepping c) w (rw e))
+    partner-marks (closing-stepped c) = other-track (closing-stepped c) (unreached f p v (closing-stepped c) w (rw e))
     partner-marks (closing c) = other-track (closing c) (unreached f p v (closing c) w (rw e))
     partner-marks abandon = other-track abandon (unreached f p v abandon w (rw e))
     partner-marks (reading c) = other-track (reading c) (unreached f p v (reading c) w (rw e))

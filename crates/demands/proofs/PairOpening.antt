@@ -4,6 +4,7 @@ use mathlib.Core.Bool.{Bool, true, false, cond}
 use mathlib.Core.List.{List, [], _∷_, _++_}
 use lib.Ieee.{Format}
 use Rattle.filter.specs.declared.Filter.{Filter}
+use Rattle.filter.specs.Asked.{inRange}
 use Rattle.filter.specs.Filters.{isShut, abandoned}
 use Rattle.filter.specs.Calls.{SetCall, Call, setting, abandon}
 use Rattle.filter.specs.Steps.{step}
@@ -68,21 +69,27 @@ module _ (f : Format) (w : Side) where
 
   -- ---- and the side is as it was, in every bit but scratch
 
-  -- a call after which the open call is still open leaves its side
-  left : (p : Pair) (t : SideCall) → isShut (trackAt p w .stage) ≡ false → isShut (trackAt (pairStep f p (t .side) (t .call) .pair) w .stage) ≡ false → solo (pairStep f p (t .side) (t .call) .pair) w ≡ solo p w
+  -- a call after which the open call is still open changes nothing but scratch of its side
+  left : (p : Pair) (t : SideCall) → isShut (trackAt p w .stage) ≡ false → isShut (trackAt (pairStep f p (t .side) (t .call) .pair) w .stage) ≡ false → abandoned (solo (pairStep f p (t .side) (t .call) .pair) w) ≡ abandoned (solo p w)
   left p t h i = go (same (t .side) w) (onSheet (t .call)) refl refl
     where
-      go : (a b : Bool) → same (t .side) w ≡ a → onSheet (t .call) ≡ b → solo (pairStep f p (t .side) (t .call) .pair) w ≡ solo p w
+      go : (a b : Bool) → same (t .side) w ≡ a → onSheet (t .call) ≡ b → abandoned (solo (pairStep f p (t .side) (t .call) .pair) w) ≡ abandoned (solo p w)
       go true b e s =
-          let d = sym (same-is (t .side) w e) in
-          open-pair f p (t .side) (t .call) (subst (λ (v : Side). isShut (trackAt p v .stage) ≡ false) d h) (subst (λ (v : Side). isShut (trackAt (pairStep f p (t .side) (t .call) .pair) v .stage) ≡ false) d i) w
-      go false true e s = ap (λ (q : Pair). solo q w) (refused-whole f p (t .side) (t .call) (open-refuses f p (t .side) w (t .call) s h))
-      go false false e s = unreached f p (t .side) (t .call) w (rw (e, s))
+          let d = same-is (t .side) w e in
+          let q = pairStep f p (t .side) (t .call) .pair in
+          subst (λ (v : Side). abandoned (solo q v) ≡ abandoned (solo p v)) d (open-pair f p (t .side) (t .call) (subst (λ (v : Side). isShut (trackAt p v .stage) ≡ false) (sym d) h) (subst (λ (v : Side). isShut (trackAt q v .stage) ≡ false) (sym d) i) .0)
+      go false true e s = ap (λ (q : Pair). abandoned (solo q w)) (refused-whole f p (t .side) (t .call) (open-refuses f p (t .side) w (t .call) s h))
+      go false false e s = ap abandoned (unreached f p (t .side) (t .call) w (rw (e, s)))
 
-  all-left : (p : Pair) (mid : List SideCall) → OpenThrough f w p mid → solo (pairRan f p mid) w ≡ solo p w
+  all-left : (p : Pair) (mid : List SideCall) → OpenThrough f w p mid → abandoned (solo (pairRan f p mid) w) ≡ abandoned (solo p w)
   unfolding pairRan
   all-left p [] h = refl
   all-left p (t ∷ ts) h = all-left (pairStep f p (t .side) (t .call) .pair) ts (h .1) ∙ left p t (h .0) (open-now _ ts (h .1))
+
+  still-open : (p : Pair) (mid : List SideCall) → OpenThrough f w p mid → isShut (trackAt (pairRan f p mid) w .stage) ≡ false
+  unfolding pairRan
+  still-open p [] h = h
+  still-open p (t ∷ ts) h = still-open (pairStep f p (t .side) (t .call) .pair) ts (h .1)
 
   ran-append : (p : Pair) (cs ds : List SideCall) → pairRan f p (cs ++ ds) ≡ pairRan f (pairRan f p cs) ds
   unfolding pairRan
@@ -95,6 +102,6 @@ module _ (f : Format) (w : Side) where
       let q = pairStep f p w (setting c) .pair in
       let m = own-moved f p w (setting c) refl in
       let o = opens f (solo p w) (setting c) h (ap (λ (s : Filter). isShut (s .track .stage)) (sym m) ∙ open-now q mid st) in
-      let r = all-left q mid st in
+      let r = all-left q mid st ∙ ap abandoned m in
       ap (λ (z : Pair). solo z w) (ran-append q mid (by w abandon ∷ [])) ∙ own-moved f (pairRan f q mid) w abandon refl
-      ∙ ap (λ (s : Filter). step f s abandon .filter) (r ∙ m) ∙ abandon-open f (step f (solo p w) (setting c) .filter) (ap (λ (s : Filter). isShut (s .track .stage)) (sym m) ∙ open-now q mid st) (o .1) ∙ o .0
+      ∙ abandon-open f (solo (pairRan f q mid) w) (still-open q mid st) (ap (λ (s : Filter). inRange 1 8 (s .sheet .n)) r ∙ o .1) ∙ r ∙ o .0

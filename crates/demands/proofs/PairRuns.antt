@@ -7,7 +7,7 @@ use mathlib.Core.List.{List, [], _∷_, _++_, map}
 use lib.Ieee.{Format}
 use Rattle.floats.specs.Refusal.{STAGE, refused}
 use Rattle.filter.specs.declared.Filter.{Filter}
-use Rattle.filter.specs.Calls.{Call, writing, setting, closing, abandon, reading}
+use Rattle.filter.specs.Calls.{Call, writing, setting, stepping, closing, closing-stepped, abandon, reading}
 use Rattle.filter.specs.Steps.{Reply, Stepped, stepped, step}
 use Rattle.pairs.specs.declared.Pair.{Pair}
 use Rattle.pairs.specs.declared.Side.{Side}
@@ -51,7 +51,9 @@ module _ (f : Format) where
   at-partner s u (writing c) zero l m hs = ap (λ (t : Filter). aloneTold f t hs) (m refl refl)
   at-partner s u (writing c) (suc r) l m hs = ap (λ (t : Filter). aloneTold f t hs) (l (λ a b. omega arith))
   at-partner s u (setting c) r l m hs = ap (λ (t : Filter). aloneTold f t hs) (l (λ a b. two-ways a refl))
+  at-partner s u (stepping c) r l m hs = ap (λ (t : Filter). aloneTold f t hs) (l (λ a b. two-ways a refl))
   at-partner s u (closing c) r l m hs = ap (λ (t : Filter). aloneTold f t hs) (l (λ a b. two-ways a refl))
+  at-partner s u (closing-stepped c) r l m hs = ap (λ (t : Filter). aloneTold f t hs) (l (λ a b. two-ways a refl))
   at-partner s u abandon r l m hs = ap (λ (t : Filter). aloneTold f t hs) (l (λ a b. two-ways a refl))
   at-partner s u (reading c) r l m hs = ap (λ (t : Filter). aloneTold f t hs) (l (λ a b. two-ways a refl))
 

@@ -8,7 +8,7 @@ use Rattle.floats.specs.Refusal.{STAGE, Outcome, refused, accepted}
 use Rattle.filter.specs.declared.Filter.{Filter}
 use Rattle.filter.specs.Asked.{guarded}
 use Rattle.filter.specs.Filters.{filter, isShut, Change, changed}
-use Rattle.filter.specs.Calls.{SheetCall, Call, writing, setting, closing, abandon, reading, Done}
+use Rattle.filter.specs.Calls.{SheetCall, Call, writing, setting, stepping, closing, closing-stepped, abandon, reading, Done}
 use Rattle.filter.specs.Steps.{Stepped, stepped, step}
 use Rattle.pairs.specs.declared.Pair.{Pair}
 use Rattle.pairs.specs.declared.Side.{Side}
@@ -23,7 +23,9 @@ use Rattle.demands.proofs.Leftover.{stepped-reply, step-cases}
 pub on-sheet-is : (c : Call) → (onSheet c ≡ true) ↔ ((d : SheetCall) × (c ≡ writing d))
 on-sheet-is (writing c) = (λ h. (c, refl), λ d. refl)
 on-sheet-is (setting c) = (λ h. absurd (two-ways h refl), λ d. ap onSheet (d .1))
+on-sheet-is (stepping c) = (λ h. absurd (two-ways h refl), λ d. ap onSheet (d .1))
 on-sheet-is (closing c) = (λ h. absurd (two-ways h refl), λ d. ap onSheet (d .1))
+on-sheet-is (closing-stepped c) = (λ h. absurd (two-ways h refl), λ d. ap onSheet (d .1))
 on-sheet-is abandon = (λ h. absurd (two-ways h refl), λ d. ap onSheet (d .1))
 on-sheet-is (reading c) = (λ h. absurd (two-ways h refl), λ d. ap onSheet (d .1))
 
@@ -31,7 +33,9 @@ on-sheet-is (reading c) = (λ h. absurd (two-ways h refl), λ d. ap onSheet (d .
 own-sheet : (s : Filter) (c : Call) (d : Change) → onSheet c ≡ false → Own c d → changed s d .sheet ≡ s .sheet
 own-sheet s (writing c) d h o = absurd (two-ways refl h)
 own-sheet s (setting c) d h o = rw (o .1)
+own-sheet s (stepping c) d h o = rw (o .1)
 own-sheet s (closing c) d h o = rw (o .1)
+own-sheet s (closing-stepped c) d h o = rw (o .1)
 own-sheet s abandon d h o = rw o
 own-sheet s (reading c) d h o = rw o
 
@@ -90,7 +94,9 @@ module _ (f : Format) (p : Pair) where
       sheet Second true false h k = rw (h, k)
       sheet Second false y h k = rw h
   side-barred w (setting c) = solo-is w (setting c) refl
+  side-barred w (stepping c) = solo-is w (stepping c) refl
   side-barred w (closing c) = solo-is w (closing c) refl
+  side-barred w (closing-stepped c) = solo-is w (closing-stepped c) refl
   side-barred w abandon = solo-is w abandon refl
   side-barred w (reading c) = solo-is w (reading c) refl
 
@@ -98,7 +104,9 @@ module _ (f : Format) (p : Pair) where
   pub replies-agree : (v w : Side) (c : Call) → onSheet c ≡ true → sideStep v c .reply ≡ sideStep w c .reply
   replies-agree v w (writing c) h = stepped-reply (solo p v) (solo p w) (pairOutcome f p w (writing c))
   replies-agree v w (setting c) h = absurd (two-ways h refl)
+  replies-agree v w (stepping c) h = absurd (two-ways h refl)
   replies-agree v w (closing c) h = absurd (two-ways h refl)
+  replies-agree v w (closing-stepped c) h = absurd (two-ways h refl)
   replies-agree v w abandon h = absurd (two-ways h refl)
   replies-agree v w (reading c) h = absurd (two-ways h refl)
 
@@ -113,7 +121,9 @@ module _ (f : Format) (p : Pair) where
   unfolding pairStep
   written w (writing c) h = other-written w c (pairOutcome f p w (writing c))
   written w (setting c) h = absurd (two-ways h refl)
+  written w (stepping c) h = absurd (two-ways h refl)
   written w (closing c) h = absurd (two-ways h refl)
+  written w (closing-stepped c) h = absurd (two-ways h refl)
   written w abandon h = absurd (two-ways h refl)
   written w (reading c) h = absurd (two-ways h refl)
 

@@ -117,17 +117,16 @@ module _ (f : Format) where
     pub own-moved : (c : Call) → onSheet c ≡ false → solo (pairStep f p w c .pair) w ≡ step f (solo p w) c .filter
     own-moved c h = reached f p w c w (own-reached w c) ∙ ap (λ (t : Stepped). t .filter) (solo-is f p w c h)
 
-    -- by a side whose call is open and stays so, it leaves both sides as they were
-    pub open-pair : (c : Call) → isShut (trackAt p w .stage) ≡ false → isShut (trackAt (pairStep f p w c .pair) w .stage) ≡ false → (v : Side) → solo (pairStep f p w c .pair) v ≡ solo p v
-    open-pair c h k v = go (onSheet c) (same w v) refl refl
+    -- by a side whose call is open and stays so, it changes nothing but scratch there, and leaves the other as it was
+    pub open-pair : (c : Call) → isShut (trackAt p w .stage) ≡ false → isShut (trackAt (pairStep f p w c .pair) w .stage) ≡ false
+        → (abandoned (solo (pairStep f p w c .pair) w) ≡ abandoned (solo p w)) × ((v : Side) → same w v ≡ false → solo (pairStep f p w c .pair) v ≡ solo p v)
+    open-pair c h k = go (onSheet c) refl
       where
-        go : (a b : Bool) → onSheet c ≡ a → same w v ≡ b → solo (pairStep f p w c .pair) v ≡ solo p v
-        go true b s e = ap (λ (q : Pair). solo q v) (refused-whole f p w c (open-refuses f p w w c s h))
-        go false true s e =
-            let d = same-is w v e in
+        go : (a : Bool) → onSheet c ≡ a → (abandoned (solo (pairStep f p w c .pair) w) ≡ abandoned (solo p w)) × ((v : Side) → same w v ≡ false → solo (pairStep f p w c .pair) v ≡ solo p v)
+        go true s = let r = refused-whole f p w c (open-refuses f p w w c s h) in (ap (λ (q : Pair). abandoned (solo q w)) r, λ v e. ap (λ (q : Pair). solo q v) r)
+        go false s =
             let m = own-moved c s in
-            rw (← d) (m ∙ open-same f (solo p w) c h (ap (λ (t : Filter). isShut (t .track .stage)) (sym m) ∙ k))
-        go false false s e = unreached f p w c v (rw (e, s))
+            (ap abandoned m ∙ open-same f (solo p w) c h (ap (λ (t : Filter). isShut (t .track .stage)) (sym m) ∙ k), λ v e. unreached f p w c v (rw (e, s)))
 
     -- ---- beside another run
 
@@ -154,6 +153,18 @@ module _ (f : Format) where
       open-still : b w ≡ true → isShut (trackAt p w .stage) ≡ false
       open-still i = let t : Follows true (solo p w) (solo q w) = rw i at (beside w) in t .0
 
+      -- a call of w's own while its call is open
+      own-beside : (c : Call) → b w ≡ true → isShut (trackAt (pairStep f p w c .pair) w .stage) ≡ false → Beside b (pairStep f p w c .pair) q
+      own-beside c i o v = go (same w v) refl
+        where
+          go : (r : Bool) → same w v ≡ r → Follows (b v) (solo (pairStep f p w c .pair) v) (solo q v)
+          go true e =
+              let d = same-is w v e in
+              let t : Follows true (solo p w) (solo q w) = rw i at (beside w) in
+              let m = open-pair c (t .0) o .0 in
+              rw (← d, i) (o, ap (λ (s : Filter). inRange 1 8 (s .sheet .n)) m ∙ t .1, ap seen m ∙ t .2)
+          go false e = rw (open-pair c (open-still i) o .1 v e) (beside v)
+
       abandoned-beside : b w ≡ true → Beside (updated w false b) (pairStep f p w abandon .pair) q
       abandoned-beside i =
           let t : Follows true (solo p w) (solo q w) = rw i at (beside w) in
@@ -167,7 +178,7 @@ module _ (f : Format) where
   struck-same q e (call-kept {b = b} {p = p} {w = w} {c = c} h k) = ap₂ _∷_ (kept-told b p q e w c h) (struck-same _ (kept-beside b p q e w c h) k)
   struck-same q e (refused-struck {b = b} {p = p} {w = w} {c = c} n k) = struck-same q (left-beside p w b q e c (λ v. ap (λ (r : Pair). solo r v) (refused-whole f p w c n))) k
   struck-same q e (open-struck {b = b} {p = p} {w = w} {c = c} i h o k) = struck-same q (opened-beside p w b q e c i h o) k
-  struck-same q e (own-struck {b = b} {p = p} {w = w} {c = c} i o k) = struck-same q (left-beside p w b q e c (open-pair p w c (open-still p w b q e i) o)) k
+  struck-same q e (own-struck {b = b} {p = p} {w = w} {c = c} i o k) = struck-same q (own-beside p w b q e c i o) k
   struck-same q e (abandon-struck {b = b} {p = p} {w = w} i k) = struck-same q (abandoned-beside p w b q e i) k
 
   pub pair-striking : {p : Pair} {cs ds : List SideCall} (k : PairStruck f nobody p cs ds) → pairRest f k ≡ pairTold f p ds

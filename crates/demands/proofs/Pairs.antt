@@ -48,7 +48,7 @@ module _ (f : Format) where
   -- ---- One call, and with it demand 2
 
   module _ (p : Pair) where
-    -- A call on a side is the solo call on sheet and side, in what it tells and in what it leaves of the side (so that what Demand1 says of places and Demand2 of numbers holds of it); but a sheet change while the partner has a call open is refused by 3.
+    -- A call on a side is the solo call on sheet and side, in what it tells and in what it leaves of the side (so that what Demand1 says of places, Demand2 of numbers and EitherWay of stepped calls holds of it); but a sheet change while the partner has a call open is refused by 3.
     pub a-call-on-a-side : (w : Side) (c : Call) → let t = cond (barred p w c) (stepped (solo p w) (refused STAGE)) (step f (solo p w) c) in (pairStep f p w c .reply ≡ t .reply) × (solo (pairStep f p w c .pair) w ≡ t .filter)
     a-call-on-a-side w c = let e = on-is f p w c ∙ side-barred f p w c in (ap (λ (t : Stepped). t .reply) e, ap (λ (t : Stepped). t .filter) e)
 
@@ -101,7 +101,7 @@ module _ (f : Format) where
       taken-when = pair-taken f p w c
 
       -- What is searched is what that call searches on a filter, and a place that isn't 0 stands beside the same numbers.
-      pub searched-by : pairAsks p w c .inputs ≡ searches (p .sheet .n) c
+      pub searched-by : pairAsks p w c .inputs ≡ searches (seen (solo p w)) c
       searched-by = searches-so (seen (solo p w)) c
 
       pub no-other-place : Placed (pairStep f p w c .reply .refusal)

@@ -1,6 +1,6 @@
 -- 7 and 8 tell the row of the first bad pivot: of the listed results the first that fails is a pivot just where this is the first bad one of its matrix, and what is listed before the factor has passed. Then by calls: when 51 to 56, 7 and 8 are given, and which calls give 7, 8 and 9. Assumes nothing.
 use Prim.Native.Nat.{ℕ, _<_, _≤_}
-use mathlib.Core.Path.{_≡_, refl, sym, ap, subst}
+use mathlib.Core.Path.{_≡_, refl, sym, ap, _∙_, subst}
 use mathlib.Core.Bool.{Bool, true, false, cond}
 use mathlib.Core.List.{List, [], _∷_, _++_}
 use mathlib.Core.Logic.{_↔_, _⊎_, inr, ⊎-elim}
@@ -25,10 +25,11 @@ use Rattle.filter.specs.Steps.{step}
 use Rattle.demands.specs.Rows.{Some, here, there, FirstBad, searches, Fails, FirstFails, now, later, Cause, stage, size, short, stale, kind, param, met, gives, Applies, rank, Free, IsOpen, IsClose, IsCorrection, ByStep}
 use Rattle.demands.specs.Rows as Row
 use Rattle.demands.specs.Listed.{listedAtPoints, listedAtOpen, listedAtHead, listedAtGain, listedAtCorrection}
-use Rattle.demands.proofs.Rows.{two-ways, none, parted}
+use Rattle.stepped.proofs.Seen.{fits-seen}
+use Rattle.demands.proofs.Rows.{two-ways, itself, passes-where, none, parted}
 use Rattle.demands.proofs.Exactly.{first-words, first-tests, no-first, exactly, as-refused}
 use Rattle.demands.proofs.Listed.{open-prediction-lists, open-correction-lists, close-correction-lists, close-correction-flat-lists}
-use Rattle.demands.proofs.Table.{regular, searches-so, steps-give, by-row}
+use Rattle.demands.proofs.Table.{regular, searches-so, images-searched, steps-give, by-row}
 
 -- none of these is refused by r
 abbrev Others : Refusal → List Result → Type 0
@@ -122,11 +123,14 @@ module _ (f : Format) (s : Filter) where
   without-steps c = unstepped (asks (seen s) c) (steps c) []
 
   -- one of 51 to 56 is given, by a call that opens nothing, just where nothing is refused before the search and the first bad number is there
-  pub number-exactly : (c : Call) → (IsOpen c → ⊥) → (t : Slice) (i : ℕ) → (step f s c .reply .refusal ≡ verdict (NUMBER t i)) ↔ (Free f 4 s c × FirstBad t i (searches (s .sheet .n) c))
+  pub number-exactly : (c : Call) → (IsOpen c → ⊥) → (t : Slice) (i : ℕ) → (step f s c .reply .refusal ≡ verdict (NUMBER t i)) ↔ (Free f 4 s c × FirstBad t i (searches s c))
   number-exactly c n t i = (
-    λ e. let w = by-row f s c (NUMBER t i) (λ b. n (b .1)) e in (λ d l x. w .1 d l (with-steps c d (omega arith) x), subst (FirstBad t i) (searches-so (seen s) c) (w .0)),
-    λ w. exactly f s c (NUMBER t i) .1 (record { cause = Row.number t i; gives-it = refl; applies = subst (FirstBad t i) (sym (searches-so (seen s) c)) (w .1); no-earlier = λ d l x. w .0 d l (without-steps c d (omega arith) x) }),
+    λ e. let w = by-row f s c (NUMBER t i) (λ b. n (b .1)) e in let free : Free f 4 s c = λ d l x. w .1 d l (with-steps c d (omega arith) x) in (free, subst (FirstBad t i) (searched free) (w .0)),
+    λ w. exactly f s c (NUMBER t i) .1 (record { cause = Row.number t i; gives-it = refl; applies = subst (FirstBad t i) (sym (searched (w .0))) (w .1); no-earlier = λ d l x. w .0 d l (without-steps c d (omega arith) x) }),
   )
+    where
+      searched : Free f 4 s c → asks (seen s) c .inputs ≡ searches s c
+      searched free = searches-so (seen s) c ∙ images-searched s c (sym (fits-seen s c) ∙ passes-where (itself (asks (seen s) c .fits)) (free stage (omega arith)))
 
   -- 7, 8 and 9 are given just where nothing is refused before the steps and the first result that fails gives them, whatever B says of that
   met-exactly : (c : Call) (r : Refusal) → 6 < number r → number r < 10 → {B : Type 0} → (Free f 7 s c → FirstFails r (steps c) ↔ B) → (step f s c .reply .refusal ≡ verdict r) ↔ (Free f 7 s c × B)

@@ -12,18 +12,37 @@ use Rattle.sigma.specs.declared.Params.{Params}
 use Rattle.sigma.specs.Weights.{w0mOf, weightsOf}
 use Rattle.correction.specs.Leaves.{widened}
 use Rattle.correction.specs.Correct.{Head, given, weightedHead}
+use Rattle.filter.specs.declared.Stage.{Stage}
+use Rattle.filter.specs.declared.Stage.the-variants.{Shut, Predicting, Correcting, PredictingStepped, CorrectingStepped}
 use Rattle.filter.specs.declared.Filter.{Filter}
-use Rattle.filter.specs.Filters.{sheet, track, filter, isShut, isCorrecting, closedWith}
-use Rattle.filter.specs.Calls.{SheetCall, set-q, set-params, set-kind, SetCall, set-x, set-p, Call, writing, setting, closing, close-correction, measurement, weightedFrom}
+use Rattle.filter.specs.Filters.{sheet, track, filter, isShut, isCorrecting, isCorrectingStepped, isCorrection, closedWith}
+use Rattle.filter.specs.Calls.{SheetCall, set-q, set-params, set-kind, SetCall, set-x, set-p, Call, writing, setting, closing, closing-stepped, close-correction, close-correction-stepped, measurement, weightedFrom}
 use Rattle.filter.specs.Steps.{step}
-use Rattle.filter.proofs.Closing.{correcting-open}
+use Rattle.filter.proofs.Sizes.{and-left}
+use Rattle.stepped.proofs.Seen.{correcting-at}
 use Rattle.demands.specs.Listed.{state, covariance}
 use Rattle.demands.specs.Sound.{DrawnFrom, Yielded}
 use Rattle.demands.specs.Settings.{sheetMarks, marks, SincePredicted, qThen, OfPoints}
 use Rattle.demands.proofs.Table.{taken-fits}
-use Rattle.demands.proofs.Accepted.{writing-taken, writing-marked, writing-keeps, setting-taken, setting-marked, setting-keeps, correction-closed}
+use Rattle.demands.proofs.Accepted.{writing-taken, writing-marked, writing-keeps, setting-taken, setting-marked, setting-keeps, correction-closed, stepped-closed}
+use Rattle.demands.proofs.Rows.{two-ways}
 use Rattle.demands.proofs.Sound.{sound}
 use Rattle.demands.proofs.SincePredicted.{since-predicted, of-points}
+
+-- ---- the stages of a correction
+
+correction-open : (t : Stage) → isCorrection t ≡ true → isShut t ≡ false
+correction-open Shut h = absurd (two-ways h refl)
+correction-open Predicting h = refl
+correction-open Correcting h = refl
+correction-open PredictingStepped h = refl
+correction-open CorrectingStepped h = refl
+
+correcting-correction : (t : Stage) → isCorrecting t ≡ true → isCorrection t ≡ true
+correcting-correction t h = rw h
+
+stepped-correction : (t : Stage) → isCorrectingStepped t ≡ true → isCorrection t ≡ true
+stepped-correction t h = rw (correcting-at t h)
 
 -- ---- What a setting does, on any filter
 
@@ -50,7 +69,7 @@ module _ (f : Format) (s : Filter) where
 
   -- In all, an accepted setting puts what it is given into its place, lists with +0 past the numbers in use; all but Q mark; nothing else changes.
   abbrev marked : List Float → List Float → Filter
-  marked x p = filter (s .sheet) (track x p (s .track .weights) (s .track .points) true (s .track .stage) (s .track .«drawn_weights») (s .track .«drawn_points»))
+  marked x p = filter (s .sheet) (track x p (s .track .weights) (s .track .points) true (s .track .stage) (s .track .«drawn_weights») (s .track .«drawn_points») (s .track .kept))
 
   pub x-is-set : (v : List Float) → Taken (setting (set-x v)) → after (setting (set-x v)) ≡ marked (front (s .sheet .n) v (zeros 8)) (s .track .p)
   x-is-set v e = setting-taken f s (set-x v) _ refl e
@@ -100,11 +119,19 @@ module _ (f : Format) {s : Filter} (y : Yielded f s) where
     abbrev close : Call
     close = closing (close-correction m z r kinds observed)
 
-    pub w0m-belongs-to-its-weights : isCorrecting (s .track .stage) ≡ true → weightedFrom f s m z r kinds observed ≡ headBy (weightsOf f (s .sheet .n) (s .sheet .params))
-    w0m-belongs-to-its-weights h = ap headBy (drawn-weights (correcting-open (s .track .stage) h))
+    pub w0m-belongs-to-its-weights : isCorrection (s .track .stage) ≡ true → weightedFrom f s m z r kinds observed ≡ headBy (weightsOf f (s .sheet .n) (s .sheet .params))
+    w0m-belongs-to-its-weights h = ap headBy (drawn-weights (correction-open (s .track .stage) h))
 
     -- and, accepted, has made x and P by them.
     pub corrected-by-its-parameters : step f s close .reply .refusal .number ≡ 0 → step f s close .filter ≡ (let h = headBy (weightsOf f (s .sheet .n) (s .sheet .params)) in closedWith s (s .track .«drawn_points») true (state f h) (covariance f h))
     corrected-by-its-parameters e =
         correction-closed f s m z r kinds observed e
-        ∙ ap (λ (h : Head). closedWith s (s .track .«drawn_points») true (state f h) (covariance f h)) (w0m-belongs-to-its-weights (taken-fits f s close e))
+        ∙ ap (λ (h : Head). closedWith s (s .track .«drawn_points») true (state f h) (covariance f h)) (w0m-belongs-to-its-weights (correcting-correction (s .track .stage) (taken-fits f s close e)))
+
+  -- So does a stepped close, by the images that are in.
+  pub stepped-corrected-by-its-parameters : (m : ℕ) (z r : List Float) (kinds : List Kind) → let c = closing-stepped (close-correction-stepped m z r kinds) in step f s c .reply .refusal .number ≡ 0
+      → step f s c .filter ≡ (let h = headBy m z r kinds (s .track .kept .images) (weightsOf f (s .sheet .n) (s .sheet .params)) in closedWith s (s .track .«drawn_points») true (state f h) (covariance f h))
+  stepped-corrected-by-its-parameters m z r kinds e =
+      let c = close-correction-stepped m z r kinds in
+      stepped-closed f s c e
+      ∙ ap (λ (h : Head). closedWith s (s .track .«drawn_points») true (state f h) (covariance f h)) (w0m-belongs-to-its-weights m z r kinds (s .track .kept .images) (stepped-correction (s .track .stage) (and-left _ _ (taken-fits f s (closing-stepped c) e))))

@@ -11,21 +11,21 @@ use Rattle.floats.proofs.Refusals.{number-above, number-of}
 use Rattle.sigma.specs.declared.Params.{Params}
 use Rattle.filter.specs.declared.Filter.{Filter}
 use Rattle.filter.specs.declared.Stage.the-variants.{Shut}
-use Rattle.filter.specs.Filters.{sheet, track, filter}
-use Rattle.filter.specs.Calls.{set-x, set-p, set-q, set-params, set-kind, open-prediction, open-correction, close-prediction, close-correction, close-correction-flat, Call, writing, setting, closing, abandon, reading}
+use Rattle.filter.specs.Filters.{sheet, track, filter, nothingKept}
+use Rattle.filter.specs.Calls.{set-x, set-p, set-q, set-params, set-kind, open-prediction, open-correction, open-prediction-stepped, open-correction-stepped, close-prediction, close-correction, close-correction-flat, close-prediction-stepped, close-correction-stepped, close-correction-flat-stepped, Call, writing, setting, stepping, closing, closing-stepped, abandon, reading}
 use Rattle.filter.specs.Steps.{Stepped, step}
 use Rattle.filter.specs.New.{empty, from, newAsks, newOf, newAnswer}
 use Rattle.demands.specs.Sound.{Yielded, fresh-made, stepped-on, put-at-will}
-use Rattle.demands.specs.Settings.{sheetMarks, marks, Unmarking, SincePredicted, predicted, unmarked, qThen, OfPoints}
+use Rattle.demands.specs.Settings.{sheetMarks, marks, Unmarking, with-list, in-steps, SincePredicted, predicted, unmarked, qThen, OfPoints}
 use Rattle.demands.proofs.Rows.{two-ways}
 use Rattle.demands.proofs.Exactly.{ends-so, refused-nothing}
 use Rattle.demands.proofs.Passed.{by-cases}
 use Rattle.demands.proofs.Leftover.{step-cases}
-use Rattle.demands.proofs.Accepted.{prediction-closed, correction-closed, flat-correction-closed, prediction-opened, correction-opened-afresh, correction-opened, writing-taken, writing-marked, setting-marked}
+use Rattle.demands.proofs.Accepted.{prediction-closed, correction-closed, flat-correction-closed, prediction-opened, correction-opened-afresh, correction-opened, stepped-prediction-opened, stepped-correction-opened-afresh, stepped-correction-opened, stepped-closed, writing-taken, writing-marked, setting-marked}
 
--- without Q, what is open and what that has drawn
+-- without Q, what is open, what that has drawn and what it keeps
 abbrev bare : Filter → Filter
-bare s = filter (sheet (s .sheet .n) [] (s .sheet .params) (s .sheet .kinds)) (track (s .track .x) (s .track .p) (s .track .weights) (s .track .points) (s .track .stale) Shut [] [])
+bare s = filter (sheet (s .sheet .n) [] (s .sheet .params) (s .sheet .kinds)) (track (s .track .x) (s .track .p) (s .track .weights) (s .track .points) (s .track .stale) Shut [] [] nothingKept)
 
 neither : (a b : Bool) → (a || b) ≡ false → (a ≡ false) × (b ≡ false)
 neither false b e = (refl, e)
@@ -46,7 +46,15 @@ module _ (f : Format) (s : Filter) where
       go : (t : Bool) → s .track .stale ≡ t → bare s ≡ bare (step f s (setting (open-correction b)) .filter)
       go true h = ap (λ (t : Stepped). bare (t .filter)) (sym (correction-opened-afresh f s b h z .2))
       go false h = ap (λ (t : Stepped). bare (t .filter)) (sym (correction-opened f s b h z))
+  taken-bare (setting open-prediction-stepped) u z = ap (λ (t : Stepped). bare (t .filter)) (sym (stepped-prediction-opened f s z .2))
+  taken-bare (setting open-correction-stepped) u z = go (s .track .stale) refl
+    where
+      go : (t : Bool) → s .track .stale ≡ t → bare s ≡ bare (step f s (setting open-correction-stepped) .filter)
+      go true h = ap (λ (t : Stepped). bare (t .filter)) (sym (stepped-correction-opened-afresh f s h z .2))
+      go false h = ap (λ (t : Stepped). bare (t .filter)) (sym (stepped-correction-opened f s h z))
+  taken-bare (stepping c) u z = step-cases f s (stepping c) (λ t. bare s ≡ bare t) refl (λ d o g n. rw (o .1))
   taken-bare (closing c) u z = absurd u
+  taken-bare (closing-stepped c) u z = absurd u
   taken-bare abandon u z = step-cases f s abandon (λ t. bare s ≡ bare t) refl (λ d o g n. rw o)
   taken-bare (reading c) u z = step-cases f s (reading c) (λ t. bare s ≡ bare t) refl (λ d o g n. rw o)
 
@@ -68,9 +76,13 @@ module _ (f : Format) (s : Filter) where
     call-so : (c : Call) → So c
     call-so (writing c) = either (writing c) (λ z e. goes-on (writing c) (λ k. neither (sheetMarks c) (s .track .stale) (sym (writing-marked f s c z) ∙ e) .0) e)
     call-so (setting c) = either (setting c) (λ z e. goes-on (setting c) (λ k. neither (marks c) (s .track .stale) (sym (setting-marked f s c z) ∙ e) .0) e)
-    call-so (closing (close-prediction v)) = either (closing (close-prediction v)) (λ z e. predicted y v z)
+    call-so (closing (close-prediction v)) = either (closing (close-prediction v)) (λ z e. predicted y with-list z)
     call-so (closing (close-correction m z r kinds observed)) = either (closing (close-correction m z r kinds observed)) (λ k e. absurd (two-ways (ap (λ (t : Filter). t .track .stale) (correction-closed f s m z r kinds observed k)) e))
     call-so (closing (close-correction-flat m z r observed)) = either (closing (close-correction-flat m z r observed)) (λ k e. absurd (two-ways (ap (λ (t : Filter). t .track .stale) (flat-correction-closed f s m z r observed k)) e))
+    call-so (closing-stepped close-prediction-stepped) = either (closing-stepped close-prediction-stepped) (λ z e. predicted y in-steps z)
+    call-so (closing-stepped (close-correction-stepped m z r kinds)) = let c = close-correction-stepped m z r kinds in either (closing-stepped c) (λ k e. absurd (two-ways (ap (λ (t : Filter). t .track .stale) (stepped-closed f s c k)) e))
+    call-so (closing-stepped (close-correction-flat-stepped m z r)) = let c = close-correction-flat-stepped m z r in either (closing-stepped c) (λ k e. absurd (two-ways (ap (λ (t : Filter). t .track .stale) (stepped-closed f s c k)) e))
+    call-so (stepping c) = goes-on (stepping c) (λ z. tt)
     call-so abandon = goes-on abandon (λ z. tt)
     call-so (reading c) = goes-on (reading c) (λ z. tt)
 
@@ -87,7 +99,8 @@ module _ (f : Format) where
 
   -- X AND P ARE OF THE POINTS
   pub of-points : {s : Filter} (k : SincePredicted f s) → OfPoints f s (qThen k)
-  of-points (predicted {s = s} y v e) = subst (λ (t : Filter). OfPoints f t (s .sheet .q)) (sym (prediction-closed f s v e)) (record { x = refl; p = refl })
+  of-points (predicted {s = s} y (with-list {v = v}) e) = subst (λ (t : Filter). OfPoints f t (s .sheet .q)) (sym (prediction-closed f s v e)) (record { x = refl; p = refl })
+  of-points (predicted {s = s} y in-steps e) = subst (λ (t : Filter). OfPoints f t (s .sheet .q)) (sym (stepped-closed f s close-prediction-stepped e)) (record { x = refl; p = refl })
   of-points (unmarked {s = s} k c h) = bare-points (unmarked-bare f s c h) (of-points k)
     where
       bare-points : {t u : Filter} {q : List Float} → bare t ≡ bare u → OfPoints f t q → OfPoints f u q

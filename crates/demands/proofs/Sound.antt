@@ -12,14 +12,18 @@ use Rattle.matrix.specs.Results.{run}
 use Rattle.sigma.specs.declared.Params.{Params}
 use Rattle.sigma.specs.Weights.{weightsPass}
 use Rattle.sigma.specs.Draw.{pointNumbers}
+use Rattle.filter.specs.declared.Stage.{Stage}
+use Rattle.filter.specs.declared.Stage.the-variants.{PredictingStepped, CorrectingStepped}
+use Rattle.filter.specs.declared.Weighted.{Weighted}
 use Rattle.filter.specs.declared.Filter.{Filter}
 use Rattle.filter.specs.Asked.{by-params, fit}
-use Rattle.filter.specs.Filters.{filter, isShut, seen, Writing, q-set, params-set, kinds-set, Setting, x-set, p-set, opened-prediction, opened-correction, Change, writes, sets, closes, abandons, reads, changed}
+use Rattle.filter.specs.Filters.{filter, isShut, isStepped, seen, Writing, q-set, params-set, kinds-set, Setting, x-set, p-set, opened-prediction, opened-correction, opened-prediction-stepped, opened-correction-stepped, Change, writes, sets, closes, keeps, abandons, reads, withDrawn, changed}
 use Rattle.filter.specs.Calls.{Call, valuesOf, asks, Done, plan}
 use Rattle.filter.specs.Steps.{outcome, stepped, step}
 use Rattle.filter.specs.New.{freshSheet, freshTrack, empty, from, newAsks, newOf, newAnswer}
+use Rattle.stepped.proofs.Seen.{stepped-open}
 use Rattle.demands.specs.Runs.{tells, told, Alike}
-use Rattle.demands.specs.Sound.{Filled, Sound, Tidy, Reached, made, further, Yielded, fresh-made, stepped-on, put-at-will, handedOut, Each, end, and}
+use Rattle.demands.specs.Sound.{Filled, Keeps, Sound, Tidy, Reached, made, further, Yielded, fresh-made, stepped-on, put-at-will, handedOut, Each, end, and}
 use Rattle.demands.proofs.Rows.{two-ways}
 use Rattle.demands.proofs.Passed.{both, by-cases, run-cases}
 use Rattle.demands.proofs.Arrays.{all-both, filled-front, filled-zeros, filled-all, plain-past}
@@ -45,6 +49,7 @@ module _ (f : Format) where
     current = λ e. absurd (two-ways refl e);
     drawn = λ e. absurd (two-ways refl e);
     drawn-from = λ e. absurd (two-ways refl e);
+    kept = λ e. absurd (two-ways e refl);
   }
 
   empty-sound : Sound f empty
@@ -52,7 +57,7 @@ module _ (f : Format) where
   empty-sound = fresh-sound 0 (zeros 8) (zeros 64) (zeros 64) _ zero-le (filled-zeros 0 8) (filled-zeros 0 64) (filled-zeros 0 64) refl (λ h. absurd (omega arith))
 
   fresh-tidy : (n : ℕ) (x p q : List Float) (params : Params) → Tidy (filter (freshSheet n q params) (freshTrack x p))
-  fresh-tidy n x p q params = record { points = filled-zeros (pointNumbers n) 136; weights = filled-zeros (n + n + 1) 17; scratch-weights = λ e. refl; scratch-points = λ e. refl }
+  fresh-tidy n x p q params = record { points = filled-zeros (pointNumbers n) 136; weights = filled-zeros (n + n + 1) 17; scratch-weights = λ e. refl; scratch-points = λ e. refl; scratch-kept = λ e. refl }
 
   module _ (n : ℕ) (x p q : List Float) (params : Params) where
     pub new-sound : Sound f (newAnswer f n x p q params .filter)
@@ -75,39 +80,49 @@ module _ (f : Format) where
   -- ---- changes
 
   written-sound : (s : Filter) (c : Writing) → Sound f s → Fine f s (writes c) → Sound f (changed s (writes c))
-  written-sound s (q-set v) o g = record { small = o .small; x = o .x; p = o .p; q = g .0; params = o .params; passed = o .passed; kinds = o .kinds; turns = o .turns; eight = o .eight; past = o .past; current = o .current; drawn = λ e. absurd (two-ways (g .1) e); drawn-from = λ e. absurd (two-ways (g .1) e) }
-  written-sound s (params-set v) o g = record { small = o .small; x = o .x; p = o .p; q = o .q; params = g .0 .0; passed = λ e. g .0 .1; kinds = o .kinds; turns = o .turns; eight = o .eight; past = o .past; current = λ e. absurd (two-ways refl e); drawn = λ e. absurd (two-ways (g .1) e); drawn-from = λ e. absurd (two-ways (g .1) e) }
-  written-sound s (kinds-set v) o g = record { small = o .small; x = o .x; p = o .p; q = o .q; params = o .params; passed = o .passed; kinds = g .0 .0; turns = g .0 .1; eight = g .0 .2; past = g .0 .3; current = λ e. absurd (two-ways refl e); drawn = λ e. absurd (two-ways (g .1) e); drawn-from = λ e. absurd (two-ways (g .1) e) }
+  written-sound s (q-set v) o g = record { small = o .small; x = o .x; p = o .p; q = g .0; params = o .params; passed = o .passed; kinds = o .kinds; turns = o .turns; eight = o .eight; past = o .past; current = o .current; drawn = λ e. absurd (two-ways (g .1) e); drawn-from = λ e. absurd (two-ways (g .1) e); kept = λ e. absurd (two-ways (g .1) (stepped-open (s .track .stage) e)) }
+  written-sound s (params-set v) o g = record { small = o .small; x = o .x; p = o .p; q = o .q; params = g .0 .0; passed = λ e. g .0 .1; kinds = o .kinds; turns = o .turns; eight = o .eight; past = o .past; current = λ e. absurd (two-ways refl e); drawn = λ e. absurd (two-ways (g .1) e); drawn-from = λ e. absurd (two-ways (g .1) e); kept = λ e. absurd (two-ways (g .1) (stepped-open (s .track .stage) e)) }
+  written-sound s (kinds-set v) o g = record { small = o .small; x = o .x; p = o .p; q = o .q; params = o .params; passed = o .passed; kinds = g .0 .0; turns = g .0 .1; eight = g .0 .2; past = g .0 .3; current = λ e. absurd (two-ways refl e); drawn = λ e. absurd (two-ways (g .1) e); drawn-from = λ e. absurd (two-ways (g .1) e); kept = λ e. absurd (two-ways (g .1) (stepped-open (s .track .stage) e)) }
+
+  -- of a stepped call that has just been opened
+  nothing-yet : (s : Filter) (t : Stage) (d : Weighted) → Keeps (filter (s .sheet) (withDrawn (s .track) t d))
+  nothing-yet s t d = record { few = omega arith; images = filled-zeros _ 136; unnamed = λ e. refl; named = λ h. absurd (omega arith); asked = λ e. absurd (two-ways e refl) }
 
   set-sound : (s : Filter) (c : Setting) → Sound f s → Fine f s (sets c) → Sound f (changed s (sets c))
-  set-sound s (x-set v) o g = record { small = o .small; x = g .0; p = o .p; q = o .q; params = o .params; passed = o .passed; kinds = o .kinds; turns = o .turns; eight = o .eight; past = o .past; current = λ e. absurd (two-ways refl e); drawn = λ e. absurd (two-ways (g .1) e); drawn-from = λ e. absurd (two-ways (g .1) e) }
-  set-sound s (p-set v) o g = record { small = o .small; x = o .x; p = g .0; q = o .q; params = o .params; passed = o .passed; kinds = o .kinds; turns = o .turns; eight = o .eight; past = o .past; current = λ e. absurd (two-ways refl e); drawn = λ e. absurd (two-ways (g .1) e); drawn-from = λ e. absurd (two-ways (g .1) e) }
-  set-sound s (opened-prediction d) o g = record { small = o .small; x = o .x; p = o .p; q = o .q; params = o .params; passed = o .passed; kinds = o .kinds; turns = o .turns; eight = o .eight; past = o .past; current = o .current; drawn = λ e. g .0 .0; drawn-from = λ e. g .0 .1 }
-  set-sound s (opened-correction d) o g = record { small = o .small; x = o .x; p = o .p; q = o .q; params = o .params; passed = o .passed; kinds = o .kinds; turns = o .turns; eight = o .eight; past = o .past; current = o .current; drawn = λ e. g .0 .0; drawn-from = λ e. g .0 .1 }
+  set-sound s (x-set v) o g = record { small = o .small; x = g .0; p = o .p; q = o .q; params = o .params; passed = o .passed; kinds = o .kinds; turns = o .turns; eight = o .eight; past = o .past; current = λ e. absurd (two-ways refl e); drawn = λ e. absurd (two-ways (g .1) e); drawn-from = λ e. absurd (two-ways (g .1) e); kept = λ e. absurd (two-ways (g .1) (stepped-open (s .track .stage) e)) }
+  set-sound s (p-set v) o g = record { small = o .small; x = o .x; p = g .0; q = o .q; params = o .params; passed = o .passed; kinds = o .kinds; turns = o .turns; eight = o .eight; past = o .past; current = λ e. absurd (two-ways refl e); drawn = λ e. absurd (two-ways (g .1) e); drawn-from = λ e. absurd (two-ways (g .1) e); kept = λ e. absurd (two-ways (g .1) (stepped-open (s .track .stage) e)) }
+  set-sound s (opened-prediction d) o g = record { small = o .small; x = o .x; p = o .p; q = o .q; params = o .params; passed = o .passed; kinds = o .kinds; turns = o .turns; eight = o .eight; past = o .past; current = o .current; drawn = λ e. g .0 .0; drawn-from = λ e. g .0 .1; kept = λ e. absurd (two-ways e refl) }
+  set-sound s (opened-correction d) o g = record { small = o .small; x = o .x; p = o .p; q = o .q; params = o .params; passed = o .passed; kinds = o .kinds; turns = o .turns; eight = o .eight; past = o .past; current = o .current; drawn = λ e. g .0 .0; drawn-from = λ e. g .0 .1; kept = λ e. absurd (two-ways e refl) }
+  set-sound s (opened-prediction-stepped d) o g = record { small = o .small; x = o .x; p = o .p; q = o .q; params = o .params; passed = o .passed; kinds = o .kinds; turns = o .turns; eight = o .eight; past = o .past; current = o .current; drawn = λ e. g .0 .0; drawn-from = λ e. g .0 .1; kept = λ e. nothing-yet s PredictingStepped d }
+  set-sound s (opened-correction-stepped d) o g = record { small = o .small; x = o .x; p = o .p; q = o .q; params = o .params; passed = o .passed; kinds = o .kinds; turns = o .turns; eight = o .eight; past = o .past; current = o .current; drawn = λ e. g .0 .0; drawn-from = λ e. g .0 .1; kept = λ e. nothing-yet s CorrectingStepped d }
 
   changed-sound : (s : Filter) (c : Change) → Sound f s → Fine f s c → Sound f (changed s c)
   changed-sound s (writes c) o g = written-sound s c o g
   changed-sound s (sets c) o g = set-sound s c o g
-  changed-sound s (closes c) o g = record { small = o .small; x = g .0; p = g .1; q = o .q; params = o .params; passed = o .passed; kinds = o .kinds; turns = o .turns; eight = o .eight; past = o .past; current = λ e. g .2; drawn = λ e. absurd (two-ways refl e); drawn-from = λ e. absurd (two-ways refl e) }
-  changed-sound s abandons o g = record { small = o .small; x = o .x; p = o .p; q = o .q; params = o .params; passed = o .passed; kinds = o .kinds; turns = o .turns; eight = o .eight; past = o .past; current = o .current; drawn = λ e. absurd (two-ways refl e); drawn-from = λ e. absurd (two-ways refl e) }
+  changed-sound s (closes c) o g = record { small = o .small; x = g .0; p = g .1; q = o .q; params = o .params; passed = o .passed; kinds = o .kinds; turns = o .turns; eight = o .eight; past = o .past; current = λ e. g .2; drawn = λ e. absurd (two-ways refl e); drawn-from = λ e. absurd (two-ways refl e); kept = λ e. absurd (two-ways e refl) }
+  changed-sound s (keeps k) o g = record { small = o .small; x = o .x; p = o .p; q = o .q; params = o .params; passed = o .passed; kinds = o .kinds; turns = o .turns; eight = o .eight; past = o .past; current = o .current; drawn = o .drawn; drawn-from = o .drawn-from; kept = λ e. g .1 }
+  changed-sound s abandons o g = record { small = o .small; x = o .x; p = o .p; q = o .q; params = o .params; passed = o .passed; kinds = o .kinds; turns = o .turns; eight = o .eight; past = o .past; current = o .current; drawn = λ e. absurd (two-ways refl e); drawn-from = λ e. absurd (two-ways refl e); kept = λ e. absurd (two-ways e refl) }
   changed-sound s reads o g = o
 
   written-tidy : (s : Filter) (c : Writing) → Tidy s → Tidy (changed s (writes c))
-  written-tidy s (q-set v) t = record { points = t .points; weights = t .weights; scratch-weights = t .scratch-weights; scratch-points = t .scratch-points }
-  written-tidy s (params-set v) t = record { points = t .points; weights = t .weights; scratch-weights = t .scratch-weights; scratch-points = t .scratch-points }
-  written-tidy s (kinds-set v) t = record { points = t .points; weights = t .weights; scratch-weights = t .scratch-weights; scratch-points = t .scratch-points }
+  written-tidy s (q-set v) t = record { points = t .points; weights = t .weights; scratch-weights = t .scratch-weights; scratch-points = t .scratch-points; scratch-kept = t .scratch-kept }
+  written-tidy s (params-set v) t = record { points = t .points; weights = t .weights; scratch-weights = t .scratch-weights; scratch-points = t .scratch-points; scratch-kept = t .scratch-kept }
+  written-tidy s (kinds-set v) t = record { points = t .points; weights = t .weights; scratch-weights = t .scratch-weights; scratch-points = t .scratch-points; scratch-kept = t .scratch-kept }
 
   set-tidy : (s : Filter) (c : Setting) → Tidy s → Tidy (changed s (sets c))
-  set-tidy s (x-set v) t = record { points = t .points; weights = t .weights; scratch-weights = t .scratch-weights; scratch-points = t .scratch-points }
-  set-tidy s (p-set v) t = record { points = t .points; weights = t .weights; scratch-weights = t .scratch-weights; scratch-points = t .scratch-points }
-  set-tidy s (opened-prediction d) t = record { points = t .points; weights = t .weights; scratch-weights = λ e. absurd (two-ways e refl); scratch-points = λ e. absurd (two-ways e refl) }
-  set-tidy s (opened-correction d) t = record { points = t .points; weights = t .weights; scratch-weights = λ e. absurd (two-ways e refl); scratch-points = λ e. absurd (two-ways e refl) }
+  set-tidy s (x-set v) t = record { points = t .points; weights = t .weights; scratch-weights = t .scratch-weights; scratch-points = t .scratch-points; scratch-kept = t .scratch-kept }
+  set-tidy s (p-set v) t = record { points = t .points; weights = t .weights; scratch-weights = t .scratch-weights; scratch-points = t .scratch-points; scratch-kept = t .scratch-kept }
+  set-tidy s (opened-prediction d) t = record { points = t .points; weights = t .weights; scratch-weights = λ e. absurd (two-ways e refl); scratch-points = λ e. absurd (two-ways e refl); scratch-kept = λ e. refl }
+  set-tidy s (opened-correction d) t = record { points = t .points; weights = t .weights; scratch-weights = λ e. absurd (two-ways e refl); scratch-points = λ e. absurd (two-ways e refl); scratch-kept = λ e. refl }
+  set-tidy s (opened-prediction-stepped d) t = record { points = t .points; weights = t .weights; scratch-weights = λ e. absurd (two-ways e refl); scratch-points = λ e. absurd (two-ways e refl); scratch-kept = λ e. refl }
+  set-tidy s (opened-correction-stepped d) t = record { points = t .points; weights = t .weights; scratch-weights = λ e. absurd (two-ways e refl); scratch-points = λ e. absurd (two-ways e refl); scratch-kept = λ e. refl }
 
   changed-tidy : (s : Filter) (c : Change) → Tidy s → Fine f s c → Tidy (changed s c)
   changed-tidy s (writes c) t g = written-tidy s c t
   changed-tidy s (sets c) t g = set-tidy s c t
-  changed-tidy s (closes c) t g = record { points = g .2 .points; weights = g .2 .weights; scratch-weights = λ e. refl; scratch-points = λ e. refl }
-  changed-tidy s abandons t g = record { points = t .points; weights = t .weights; scratch-weights = λ e. refl; scratch-points = λ e. refl }
+  changed-tidy s (closes c) t g = record { points = g .2 .points; weights = g .2 .weights; scratch-weights = λ e. refl; scratch-points = λ e. refl; scratch-kept = λ e. refl }
+  changed-tidy s (keeps k) t g = let u = stepped-open (s .track .stage) (g .0) in record { points = t .points; weights = t .weights; scratch-weights = λ e. absurd (two-ways e u); scratch-points = λ e. absurd (two-ways e u); scratch-kept = λ e. absurd (two-ways (g .0) e) }
+  changed-tidy s abandons t g = record { points = t .points; weights = t .weights; scratch-weights = λ e. refl; scratch-points = λ e. refl; scratch-kept = λ e. refl }
   changed-tidy s reads t g = t
 
   -- ---- EVERY CALL KEEPS IT
@@ -144,6 +159,7 @@ module _ (f : Format) where
     current = λ e. absurd (two-ways (a .track .stale₂) e);
     drawn = λ e. absurd (two-ways (ap isShut (a .track .shut₂)) e);
     drawn-from = λ e. absurd (two-ways (ap isShut (a .track .shut₂)) e);
+    kept = λ e. absurd (two-ways e (ap isStepped (a .track .shut₂)));
   }
 
   pub sound : {s : Filter} → Yielded f s → Sound f s

@@ -1,11 +1,11 @@
 -- What the lines of the table of calls have in common. A later call costs its line here. Assumes nothing.
 use Prim.Native.Nat.{ℕ, _-_, _<_, _≤_}
-use mathlib.Core.Path.{_≡_, refl, sym, _∙_, subst}
+use mathlib.Core.Path.{_≡_, refl, sym, ap, _∙_, subst}
 use mathlib.Core.Bool.{Bool, true, false, _&&_, cond}
 use mathlib.Core.List.{List, [], _∷_}
 use mathlib.Core.Logic.{_↔_, _≢_, _⊎_, inl, inr, ⊎-elim}
 use native.Mathlib.Omega.{arith}
-use lib.Ieee.{Format}
+use lib.Ieee.{Float, Format}
 use lib.Ieee.Scale.{finite}
 use Rattle.floats.specs.Refusal.{Refusal, SIZE, SHORT, STAGE, STALE, NUMBER, PARAM, PIVOT, INNOV, RANGE, KIND, badLone, verdict, accepted, refusal, unless, onward, nothing}
 use Rattle.floats.specs.Search.{searched, searchedFrom}
@@ -19,30 +19,35 @@ use Rattle.sigma.specs.Draw.{pointNumbers}
 use Rattle.correction.specs.Correct.{applyPlan}
 use Rattle.filter.specs.declared.Filter.{Filter}
 use Rattle.filter.specs.Asked.{Size, within, inOrder, guarded}
-use Rattle.filter.specs.Filters.{isShut, seen, Writing, Setting, Closing, Change, writes, sets, closes, abandons, reads}
-use Rattle.filter.specs.Calls.{set-x, set-p, set-q, set-params, set-kind, open-prediction, open-correction, close-prediction, close-correction, close-correction-flat, read-x, read-p, read-q, read-points, read-params, read-stale, Call, writing, setting, closing, abandon, reading, fits, asks, Done, closed, plan, weightedFrom, flatFrom}
+use Rattle.filter.specs.declared.Kept.{Kept}
+use Rattle.filter.specs.Filters.{isShut, seen, Writing, Setting, Closing, Change, writes, sets, closes, keeps, abandons, reads}
+use Rattle.filter.specs.Calls.{set-x, set-p, set-q, set-params, set-kind, open-prediction, open-correction, open-prediction-stepped, open-correction-stepped, ask, image-prediction, image-correction, CloseCall, close-prediction, close-correction, close-correction-flat, close-prediction-stepped, close-correction-stepped, close-correction-flat-stepped, withList, read-x, read-p, read-q, read-points, read-params, read-stale, Call, writing, setting, stepping, closing, closing-stepped, abandon, reading, fits, closeNeeds, asks, Done, closed, plan, weightedFrom, flatFrom}
 use Rattle.filter.specs.Steps.{step}
 use Rattle.filter.proofs.Closing.{predicting}
-use Rattle.demands.specs.Rows.{Some, here, OutOfRange, searches, Ascending, IsTurn, of-prediction, of-correction, of-either, by-weights, by-averages, IsFlat, flat, FirstFails, Cause, stage, size, short, stale, kind, param, met, gives, Applies, rank, ByStep}
+use Rattle.stepped.proofs.Seen.{fits-seen}
+use Rattle.stepped.proofs.Ways.{images-seen}
+use Rattle.demands.specs.Rows.{Some, here, OutOfRange, closeSearches, searches, Ascending, IsTurn, of-prediction, of-correction, of-prediction-stepped, of-correction-stepped, of-either, of-stepped, by-weights, by-averages, by-weights-stepped, by-averages-stepped, IsFlat, flat, flat-stepped, FirstFails, Cause, stage, size, short, stale, kind, param, met, gives, Applies, rank, ByStep}
 use Rattle.demands.specs.Rows as Row
 use Rattle.demands.specs.Sound.{end, and}
 use Rattle.demands.proofs.Rows.{two-ways, passes-where, none, ranged}
 use Rattle.demands.proofs.Exactly.{step-told, exactly, as-refused}
 use Rattle.demands.proofs.Passed.{Ran, ran-finish, ran-mapped, ran-either}
-use Rattle.demands.proofs.Listed.{drawing, open-prediction-lists, open-correction-lists, close-prediction-lists, close-correction-lists, close-correction-flat-lists}
+use Rattle.demands.proofs.Listed.{drawing, open-prediction-lists, open-correction-lists, open-prediction-stepped-lists, open-correction-stepped-lists, close-prediction-lists, close-correction-lists, close-correction-flat-lists}
 use Rattle.demands.proofs.ByStep.{StepsOwn, met-by-step, draw-own, correct-own}
 
 -- the change that a call makes is one of its own sort
 abbrev pub Own : Call → Change → Type 0
 Own (writing c) d = (u : Writing) × (d ≡ writes u)
 Own (setting c) d = (u : Setting) × (d ≡ sets u)
+Own (stepping c) d = (u : Kept) × (d ≡ keeps u)
 Own (closing c) d = (u : Closing) × (d ≡ closes u)
+Own (closing-stepped c) d = (u : Closing) × (d ≡ closes u)
 Own abandon d = d ≡ abandons
 Own (reading c) d = d ≡ reads
 
--- a call asks that it fits what is open and that there are 1 to 8 states; no kind has to be plain but in a flat close; its steps give what is theirs; and it makes a change of its own sort
+-- a call asks that it fits what is open and that there are 1 to 8 states; no kind has to be plain but in a flat close, either way; its steps give what is theirs; and it makes a change of its own sort
 pub record Regular (f : Format) (s : Filter) (c : Call) : Type 0 where
-  pub fitting : asks s c .fits ≡ fits c (s .track .stage)
+  pub fitting : asks s c .fits ≡ fits c s
   pub others : List Size
   pub states : asks s c .sizes ≡ record { value = s .sheet .n; from = 1; to = 8 } ∷ others
   pub only : Some IsTurn (asks s c .plain) → IsFlat c
@@ -54,7 +59,7 @@ own-either c true e = e
 own-either c false e = end
 
 module _ (f : Format) (s : Filter) where
-  lined : {c : Call} {others : List Size} → asks s c .fits ≡ fits c (s .track .stage) → asks s c .sizes ≡ record { value = s .sheet .n; from = 1; to = 8 } ∷ others → (asks s c .plain ≡ []) ⊎ IsFlat c → StepsOwn c (planned (plan f s c))
+  lined : {c : Call} {others : List Size} → asks s c .fits ≡ fits c s → asks s c .sizes ≡ record { value = s .sheet .n; from = 1; to = 8 } ∷ others → (asks s c .plain ≡ []) ⊎ IsFlat c → StepsOwn c (planned (plan f s c))
       → Ran (plan f s c) (λ (d : Done). Own c (d .change)) → Regular f s c
   lined {c} {others} a b k m d = record { fitting = a; others = others; states = b; only = λ w. ⊎-elim (λ e. absurd (none (subst (Some IsTurn) e w))) (λ y. y) k; met = m; change = d }
 
@@ -66,9 +71,17 @@ module _ (f : Format) (s : Filter) where
   regular (setting (set-p v)) = lined refl refl (inl refl) end (ran-finish _ _ (_, refl))
   regular (setting (open-prediction b)) = lined refl refl (inl refl) (rw (open-prediction-lists f s b) (draw-own _ f of-prediction (s .sheet .n) _ _ _)) (ran-mapped _ _ (drawing f s) (λ a e. (_, refl)))
   regular (setting (open-correction b)) = lined refl refl (inl refl) (rw (open-correction-lists f s b) (own-either _ (s .track .stale) (draw-own _ f of-correction (s .sheet .n) _ _ _))) (ran-either _ (s .track .stale) _ _ (λ t. ran-mapped _ _ (drawing f s) (λ a e. (_, refl))) (λ t. ran-finish _ _ (_, refl)))
+  regular (setting open-prediction-stepped) = lined refl refl (inl refl) (rw (open-prediction-stepped-lists f s) (draw-own _ f of-prediction-stepped (s .sheet .n) _ _ _)) (ran-mapped _ _ (drawing f s) (λ a e. (_, refl)))
+  regular (setting open-correction-stepped) = lined refl refl (inl refl) (rw (open-correction-stepped-lists f s) (own-either _ (s .track .stale) (draw-own _ f of-correction-stepped (s .sheet .n) _ _ _))) (ran-either _ (s .track .stale) _ _ (λ t. ran-mapped _ _ (drawing f s) (λ a e. (_, refl))) (λ t. ran-finish _ _ (_, refl)))
+  regular (stepping (ask b)) = lined refl refl (inl refl) end (ran-finish _ _ (_, refl))
+  regular (stepping (image-prediction v)) = lined refl refl (inl refl) end (ran-finish _ _ (_, refl))
+  regular (stepping (image-correction m v)) = lined refl refl (inl refl) end (ran-finish _ _ (_, refl))
   regular (closing (close-prediction v)) = lined refl refl (inl refl) (rw (close-prediction-lists f s v) (and (inr of-either) (and (inr of-either) end))) (ran-mapped _ (closed (s .track .«drawn_weights») (front (pointNumbers (s .sheet .n)) v (zeros 136)) false) (predicting f s v) (λ a e. (_, refl)))
   regular (closing (close-correction m z r kinds observed)) = lined refl refl (inl refl) (rw (close-correction-lists f s m z r kinds observed) (correct-own _ f of-either by-weights (weightedFrom f s m z r kinds observed))) (ran-mapped _ (closed (s .track .«drawn_weights») (s .track .«drawn_points») true) (applyPlan f (weightedFrom f s m z r kinds observed)) (λ a e. (_, refl)))
   regular (closing (close-correction-flat m z r observed)) = lined refl refl (inr flat) (rw (close-correction-flat-lists f s m z r observed) (correct-own _ f of-either by-averages (flatFrom f s m z r observed))) (ran-mapped _ (closed (s .track .«drawn_weights») (s .track .«drawn_points») true) (applyPlan f (flatFrom f s m z r observed)) (λ a e. (_, refl)))
+  regular (closing-stepped close-prediction-stepped) = lined refl refl (inl refl) (rw (close-prediction-lists f s (s .track .kept .images)) (and (inr of-stepped) (and (inr of-stepped) end))) (ran-mapped _ (closed (s .track .«drawn_weights») (front (pointNumbers (s .sheet .n)) (s .track .kept .images) (zeros 136)) false) (predicting f s (s .track .kept .images)) (λ a e. (_, refl)))
+  regular (closing-stepped (close-correction-stepped m z r kinds)) = let h = weightedFrom f s m z r kinds (s .track .kept .images) in lined refl refl (inl refl) (rw (close-correction-lists f s m z r kinds (s .track .kept .images)) (correct-own _ f of-stepped by-weights-stepped h)) (ran-mapped _ (closed (s .track .«drawn_weights») (s .track .«drawn_points») true) (applyPlan f h) (λ a e. (_, refl)))
+  regular (closing-stepped (close-correction-flat-stepped m z r)) = let h = flatFrom f s m z r (s .track .kept .images) in lined refl refl (inr flat-stepped) (rw (close-correction-flat-lists f s m z r (s .track .kept .images)) (correct-own _ f of-stepped by-averages-stepped h)) (ran-mapped _ (closed (s .track .«drawn_weights») (s .track .«drawn_points») true) (applyPlan f h) (λ a e. (_, refl)))
   regular abandon = lined refl refl (inl refl) end (ran-finish _ _ refl)
   regular (reading (read-x b)) = lined refl refl (inl refl) end (ran-finish _ _ refl)
   regular (reading (read-p b)) = lined refl refl (inl refl) end (ran-finish _ _ refl)
@@ -78,7 +91,12 @@ module _ (f : Format) (s : Filter) where
   regular (reading read-stale) = lined refl refl (inl refl) end (ran-finish _ _ refl)
 
 -- what a call searches
-pub searches-so : (s : Filter) (c : Call) → asks s c .inputs ≡ searches (s .sheet .n) c
+close-searches-so : (s : Filter) (c : CloseCall) → closeNeeds (s .sheet) c .inputs ≡ closeSearches (s .sheet .n) c
+close-searches-so s (close-prediction v) = refl
+close-searches-so s (close-correction m z r kinds observed) = refl
+close-searches-so s (close-correction-flat m z r observed) = refl
+
+pub searches-so : (s : Filter) (c : Call) → asks s c .inputs ≡ searches s c
 searches-so s (writing (set-q v)) = refl
 searches-so s (writing (set-params p)) = refl
 searches-so s (writing (set-kind i k)) = refl
@@ -86,9 +104,13 @@ searches-so s (setting (set-x v)) = refl
 searches-so s (setting (set-p v)) = refl
 searches-so s (setting (open-prediction b)) = refl
 searches-so s (setting (open-correction b)) = refl
-searches-so s (closing (close-prediction v)) = refl
-searches-so s (closing (close-correction m z r kinds observed)) = refl
-searches-so s (closing (close-correction-flat m z r observed)) = refl
+searches-so s (setting open-prediction-stepped) = refl
+searches-so s (setting open-correction-stepped) = refl
+searches-so s (stepping (ask b)) = refl
+searches-so s (stepping (image-prediction v)) = refl
+searches-so s (stepping (image-correction m v)) = refl
+searches-so s (closing c) = close-searches-so s c
+searches-so s (closing-stepped c) = close-searches-so s (withList c (s .track .kept .images))
 searches-so s abandon = refl
 searches-so s (reading (read-x b)) = refl
 searches-so s (reading (read-p b)) = refl
@@ -97,20 +119,48 @@ searches-so s (reading (read-points b)) = refl
 searches-so s (reading read-params) = refl
 searches-so s (reading read-stale) = refl
 
+-- what is kept of images is searched where it is seen
+pub images-searched : (s : Filter) (c : Call) → fits c s ≡ true → searches (seen s) c ≡ searches s c
+images-searched s (closing-stepped c) h = ap (λ (v : List Float). closeSearches (s .sheet .n) (withList c v)) (images-seen s c h)
+images-searched s (writing (set-q v)) h = refl
+images-searched s (writing (set-params p)) h = refl
+images-searched s (writing (set-kind i k)) h = refl
+images-searched s (setting (set-x v)) h = refl
+images-searched s (setting (set-p v)) h = refl
+images-searched s (setting (open-prediction b)) h = refl
+images-searched s (setting (open-correction b)) h = refl
+images-searched s (setting open-prediction-stepped) h = refl
+images-searched s (setting open-correction-stepped) h = refl
+images-searched s (stepping (ask b)) h = refl
+images-searched s (stepping (image-prediction v)) h = refl
+images-searched s (stepping (image-correction m v)) h = refl
+images-searched s (closing c) h = refl
+images-searched s abandon h = refl
+images-searched s (reading c) h = refl
+
 -- slice after slice in the order of their numbers
-pub ascending : (n : ℕ) (c : Call) → Ascending 50 (searches n c)
-ascending n (writing (set-q v)) = (omega arith, tt)
-ascending n (writing (set-params p)) = (omega arith, tt)
-ascending n (writing (set-kind i k)) = (omega arith, tt)
-ascending n (setting (set-x v)) = (omega arith, tt)
-ascending n (setting (set-p v)) = (omega arith, tt)
-ascending n (setting (open-prediction b)) = tt
-ascending n (setting (open-correction b)) = tt
-ascending n (closing (close-prediction v)) = (omega arith, tt)
-ascending n (closing (close-correction m z r kinds observed)) = (omega arith, (omega arith, (omega arith, (omega arith, tt))))
-ascending n (closing (close-correction-flat m z r observed)) = (omega arith, (omega arith, (omega arith, (omega arith, tt))))
-ascending n abandon = tt
-ascending n (reading c) = tt
+close-ascending : (n : ℕ) (c : CloseCall) → Ascending 50 (closeSearches n c)
+close-ascending n (close-prediction v) = (omega arith, tt)
+close-ascending n (close-correction m z r kinds observed) = (omega arith, (omega arith, (omega arith, (omega arith, tt))))
+close-ascending n (close-correction-flat m z r observed) = (omega arith, (omega arith, (omega arith, (omega arith, tt))))
+
+pub ascending : (s : Filter) (c : Call) → Ascending 50 (searches s c)
+ascending s (writing (set-q v)) = (omega arith, tt)
+ascending s (writing (set-params p)) = (omega arith, tt)
+ascending s (writing (set-kind i k)) = (omega arith, tt)
+ascending s (setting (set-x v)) = (omega arith, tt)
+ascending s (setting (set-p v)) = (omega arith, tt)
+ascending s (setting (open-prediction b)) = tt
+ascending s (setting (open-correction b)) = tt
+ascending s (setting open-prediction-stepped) = tt
+ascending s (setting open-correction-stepped) = tt
+ascending s (stepping (ask b)) = tt
+ascending s (stepping (image-prediction v)) = (omega arith, tt)
+ascending s (stepping (image-correction m v)) = (omega arith, tt)
+ascending s (closing c) = close-ascending (s .sheet .n) c
+ascending s (closing-stepped c) = close-ascending (s .sheet .n) (withList c (s .track .kept .images))
+ascending s abandon = tt
+ascending s (reading c) = tt
 
 -- ---- so of every call
 
@@ -157,22 +207,22 @@ module _ (f : Format) (s : Filter) (c : Call) where
       go (met q) e x w = absurd (n (steps-give r (rw e at x)))
 
   -- 3 is given exactly when the call doesn't fit what is open
-  pub stage-exactly : (step f s c .reply .refusal ≡ verdict STAGE) ↔ (fits c (s .track .stage) ≡ false)
+  pub stage-exactly : (step f s c .reply .refusal ≡ verdict STAGE) ↔ (fits c s ≡ false)
   stage-exactly =
       let line = regular f (seen s) c in (
-        λ e. sym (line .fitting) ∙ by-row STAGE (λ b. b) e .0,
-        λ h. exactly f s c STAGE .1 (record { cause = stage; gives-it = refl; applies = line .fitting ∙ h; no-earlier = λ d l x. absurd (omega arith) }),
+        λ e. sym (fits-seen s c) ∙ sym (line .fitting) ∙ by-row STAGE (λ b. b) e .0,
+        λ h. exactly f s c STAGE .1 (record { cause = stage; gives-it = refl; applies = line .fitting ∙ fits-seen s c ∙ h; no-earlier = λ d l x. absurd (omega arith) }),
       )
 
   -- so a call that is taken fits
-  pub taken-fits : step f s c .reply .refusal .number ≡ 0 → fits c (s .track .stage) ≡ true
-  taken-fits e = go (fits c (s .track .stage)) refl
+  pub taken-fits : step f s c .reply .refusal .number ≡ 0 → fits c s ≡ true
+  taken-fits e = go (fits c s) refl
     where
-      go : (t : Bool) → fits c (s .track .stage) ≡ t → t ≡ true
+      go : (t : Bool) → fits c s ≡ t → t ≡ true
       go true h = refl
       go false h = absurd (let z : _≡_ {A = ℕ} 3 0 = sym (number-of (stage-exactly .1 h)) ∙ e in omega arith)
 
-  -- 10 is given by a flat close alone
+  -- 10 is given by a flat close alone, either way
   pub kind-only : step f s c .reply .refusal .number ≡ 10 → IsFlat c
   unfolding named
   kind-only e = regular f (seen s) c .only (by-row KIND (λ b. b) (as-refused f s c (omega arith) e .1) .0)
@@ -187,10 +237,10 @@ module _ (f : Format) (s : Filter) (c : Call) where
   never-param h e = none (rw h at by-row PARAM (λ b. b) (as-refused f s c (omega arith) e .1) .0)
 
   -- 1 is given for n outside 1 to 8, by every call that 3 doesn't stop
-  pub states-first : OutOfRange (record { value = s .sheet .n; from = 1; to = 8 }) → fits c (s .track .stage) ≡ true → step f s c .reply .refusal ≡ verdict SIZE
+  pub states-first : OutOfRange (record { value = s .sheet .n; from = 1; to = 8 }) → fits c s ≡ true → step f s c .reply .refusal ≡ verdict SIZE
   states-first o h =
       let line = regular f (seen s) c in
-      exactly f s c SIZE .1 (record { cause = size; gives-it = refl; applies = rw (line .states) (here o); no-earlier = λ d l x. absurd (early d l x (line .fitting ∙ h)) })
+      exactly f s c SIZE .1 (record { cause = size; gives-it = refl; applies = rw (line .states) (here o); no-earlier = λ d l x. absurd (early d l x (line .fitting ∙ fits-seen s c ∙ h)) })
     where
       early : (d : Cause) → rank d < 1 → Asked d → asks (seen s) c .fits ≡ true → ⊥
       early stage l x t = two-ways t x

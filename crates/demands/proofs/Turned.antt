@@ -31,7 +31,7 @@ use Rattle.demands.proofs.Table.{Asked, by-row}
 use Rattle.demands.proofs.Pivots.{number-exactly}
 use Rattle.demands.proofs.Fine.{in-range}
 
-in-range-is : (from to n : ℕ) → (from ≤ n) × (n ≤ to) → inRange from to n ≡ true
+pub in-range-is : (from to n : ℕ) → (from ≤ n) × (n ≤ to) → inRange from to n ≡ true
 unfolding inRange
 in-range-is from to n h = both-true (le-leb from n (h .0)) (le-leb n to (h .1))
 

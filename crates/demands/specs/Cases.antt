@@ -1,4 +1,4 @@
--- THE TABLE OF CASES: document 01's numbers to check by hand, C1 to C12, and a run each for document 02's A1 (the flat close), A3 (settings mark stale), A4 (a pair on one sheet), A5 (where the bad number is) and A6 (where the width shows); each a name and a test that antt computes. At f64, and at f32 all but what is of the flat close or of a pair. Definitions only.
+-- THE TABLE OF CASES: document 01's numbers to check by hand, C1 to C12, and a run each for document 02's A1 (the flat close), A3 (settings mark stale), A4 (a pair on one sheet), A5 (where the bad number is), A6 (where the width shows) and A7 (one point at a time); each a name and a test that antt computes. At f64, and at f32 all but what is of the flat close, of a pair or stepped. Definitions only.
 use Prim.Native.Nat.{ℕ, _+_}
 use Prim.Native.String.{String}
 use mathlib.Core.Bool.{Bool, true, false, _&&_, Bool·beq}
@@ -24,7 +24,7 @@ use Rattle.sigma.specs.Weights.{lambdaOf, scaleOf, w0mOf, w0cOf, wiOf, weightsO
 use Rattle.sigma.specs.Mean.{meanOf}
 use Rattle.correction.specs.Correct.{Head, given, weightedHead}
 use Rattle.filter.specs.declared.Filter.{Filter}
-use Rattle.filter.specs.Calls.{Call, writing, setting, closing, abandon, reading, set-x, set-p, set-q, set-params, set-kind, open-prediction, open-correction, close-prediction, close-correction, close-correction-flat, read-q, read-points, read-stale}
+use Rattle.filter.specs.Calls.{Call, writing, setting, stepping, closing, closing-stepped, abandon, reading, set-x, set-p, set-q, set-params, set-kind, open-prediction, open-correction, open-prediction-stepped, open-correction-stepped, ask, image-prediction, image-correction, close-prediction, close-correction, close-correction-flat, close-prediction-stepped, close-correction-stepped, close-correction-flat-stepped, read-q, read-points, read-stale}
 use Rattle.filter.specs.New.{newAnswer}
 use Rattle.filter.specs.Point.{pointRefusal}
 use Rattle.pairs.specs.declared.Pair.{Pair}
@@ -146,6 +146,91 @@ flatStory =
     ∷ ("A1 a number before a turn", (measuringFlat nan, telling 55 [] (int 3) (int 4) true))
     ∷ ("A1 turned away", (measuringFlat (int 6), telling 10 [] (int 3) (int 4) true))
     ∷ ("A1 abandoned", (abandon, telling 0 [] (int 3) (int 4) true))
+    ∷ []
+
+-- A7 through the calls, on the same filter: C9 to C11 and A1's run one point at a time, with the same numbers. An image is refused by 3 while its point hasn't been asked for, by 54 where it isn't finite; another m than the first image's is 1; and neither way takes the other's close
+abbrev pub asking : Call
+asking = stepping (ask (nan ∷ []))
+
+abbrev pub imaging : Float → Call
+imaging v = stepping (image-prediction (v ∷ []))
+
+abbrev pub observing : Float → Call
+observing v = stepping (image-correction 1 (v ∷ []))
+
+abbrev pub measuringStepped : ℕ → Float → Call
+measuringStepped m z = closing-stepped (close-correction-stepped m (z ∷ []) (int 12 ∷ []) (replicate 4 plain))
+
+abbrev pub steppedStory : List (String × (Call × Told))
+steppedStory =
+    ("A7 nothing open", (asking, telling 3 [] (int 2) (int 4) true))
+    ∷ ("A7 C9 open", (setting open-prediction-stepped, telling 0 [] (int 2) (int 4) true))
+    ∷ ("A7 not asked for", (imaging (int 2), telling 3 [] (int 2) (int 4) true))
+    ∷ ("A7 C9 point 0", (asking, telling 0 (int 2 ∷ []) (int 2) (int 4) true))
+    ∷ ("A7 point 0 again", (asking, telling 0 (int 2 ∷ []) (int 2) (int 4) true))
+    ∷ ("A7 not finite", (imaging nan, telling 54 [] (int 2) (int 4) true))
+    ∷ ("A7 the other sort", (observing (int 2), telling 3 [] (int 2) (int 4) true))
+    ∷ ("A7 C9 image 0", (imaging (int 2), telling 0 [] (int 2) (int 4) true))
+    ∷ ("A7 the next not asked for", (imaging (int 4), telling 3 [] (int 2) (int 4) true))
+    ∷ ("A7 C9 point 1", (asking, telling 0 (int 4 ∷ []) (int 2) (int 4) true))
+    ∷ ("A7 C9 image 1", (imaging (int 4), telling 0 [] (int 2) (int 4) true))
+    ∷ ("A7 early", (closing-stepped close-prediction-stepped, telling 3 [] (int 2) (int 4) true))
+    ∷ ("A7 C9 point 2", (asking, telling 0 (int 0 ∷ []) (int 2) (int 4) true))
+    ∷ ("A7 C9 image 2", (imaging (int 0), telling 0 [] (int 2) (int 4) true))
+    ∷ ("A7 after the last", (asking, telling 3 [] (int 2) (int 4) true))
+    ∷ ("A7 mixed", (closing (close-prediction (int 2 ∷ int 4 ∷ int 0 ∷ [])), telling 3 [] (int 2) (int 4) true))
+    ∷ ("A7 C9 close", (closing-stepped close-prediction-stepped, telling 0 [] (int 2) (int 5) false))
+    ∷ ("A7 C9 points installed", (reading (read-points three), telling 0 (int 2 ∷ int 4 ∷ int 0 ∷ []) (int 2) (int 5) false))
+    ∷ ("A7 C10 open", (setting open-correction-stepped, telling 0 [] (int 2) (int 5) false))
+    ∷ ("A7 C10 point 0", (asking, telling 0 (int 2 ∷ []) (int 2) (int 5) false))
+    ∷ ("A7 C10 image 0", (observing (int 2), telling 0 [] (int 2) (int 5) false))
+    ∷ ("A7 C10 point 1", (asking, telling 0 (int 4 ∷ []) (int 2) (int 5) false))
+    ∷ ("A7 another m", (stepping (image-correction 2 (int 4 ∷ int 4 ∷ [])), telling 1 [] (int 2) (int 5) false))
+    ∷ ("A7 C10 image 1", (observing (int 4), telling 0 [] (int 2) (int 5) false))
+    ∷ ("A7 C10 point 2", (asking, telling 0 (int 0 ∷ []) (int 2) (int 5) false))
+    ∷ ("A7 C10 image 2", (observing (int 0), telling 0 [] (int 2) (int 5) false))
+    ∷ ("A7 a close of another m", (measuringStepped 2 (int 3), telling 1 [] (int 2) (int 5) false))
+    ∷ ("A7 C10 close", (measuringStepped 1 (int 3), telling 0 [] (frac 9 4) (int 4) true))
+    ∷ ("A7 opened and asked", (setting open-correction-stepped, telling 0 [] (frac 9 4) (int 4) true))
+    ∷ ("A7 C11 point 0", (asking, telling 0 (frac 9 4 ∷ []) (frac 9 4) (int 4) true))
+    ∷ ("A7 abandoned", (abandon, telling 0 [] (frac 9 4) (int 4) true))
+    ∷ ("A7 C11 open", (setting open-correction-stepped, telling 0 [] (frac 9 4) (int 4) true))
+    ∷ ("A7 nothing is left of it", (observing (int 2), telling 3 [] (frac 9 4) (int 4) true))
+    ∷ ("A7 C11 point 0 again", (asking, telling 0 (frac 9 4 ∷ []) (frac 9 4) (int 4) true))
+    ∷ ("A7 C11 image 0", (observing (frac 9 4), telling 0 [] (frac 9 4) (int 4) true))
+    ∷ ("A7 C11 point 1", (asking, telling 0 (frac 17 4 ∷ []) (frac 9 4) (int 4) true))
+    ∷ ("A7 C11 image 1", (observing (frac 17 4), telling 0 [] (frac 9 4) (int 4) true))
+    ∷ ("A7 C11 point 2", (asking, telling 0 (frac 1 4 ∷ []) (frac 9 4) (int 4) true))
+    ∷ ("A7 C11 image 2", (observing (frac 1 4), telling 0 [] (frac 9 4) (int 4) true))
+    ∷ ("A7 C11 close", (measuringStepped 1 (frac 17 4), telling 0 [] (frac 11 4) (int 3) true))
+    ∷ []
+
+abbrev pub measuringFlatStepped : Call
+measuringFlatStepped = closing-stepped (close-correction-flat-stepped 1 (int 6 ∷ []) (int 10 ∷ []))
+
+abbrev pub steppedFlatStory : List (String × (Call × Told))
+steppedFlatStory =
+    ("A7 A1 prediction opened", (setting (open-prediction three), telling 0 (int 2 ∷ int 4 ∷ int 0 ∷ []) (int 2) (int 4) true))
+    ∷ ("A7 a point of a whole list", (asking, telling 3 [] (int 2) (int 4) true))
+    ∷ ("A7 mixed the other way", (closing-stepped close-prediction-stepped, telling 3 [] (int 2) (int 4) true))
+    ∷ ("A7 A1 prediction closed", (closing (close-prediction (int 5 ∷ int 4 ∷ int 0 ∷ [])), telling 0 [] (int 2) (int 5) false))
+    ∷ ("A7 A1 open", (setting open-correction-stepped, telling 0 [] (int 2) (int 5) false))
+    ∷ ("A7 A1 point 0", (asking, telling 0 (int 5 ∷ []) (int 2) (int 5) false))
+    ∷ ("A7 A1 image 0", (observing (int 2), telling 0 [] (int 2) (int 5) false))
+    ∷ ("A7 A1 point 1", (asking, telling 0 (int 4 ∷ []) (int 2) (int 5) false))
+    ∷ ("A7 A1 image 1", (observing (int 5), telling 0 [] (int 2) (int 5) false))
+    ∷ ("A7 A1 point 2", (asking, telling 0 (int 0 ∷ []) (int 2) (int 5) false))
+    ∷ ("A7 A1 image 2", (observing (minus 1), telling 0 [] (int 2) (int 5) false))
+    ∷ ("A7 A1 close", (measuringFlatStepped, telling 0 [] (int 3) (int 4) true))
+    ∷ ("A7 A1 a turn", (writing (set-kind 0 (record { residual = Turn (int 180) })), telling 0 [] (int 3) (int 4) true))
+    ∷ ("A7 A1 open again", (setting open-correction-stepped, telling 0 [] (int 3) (int 4) true))
+    ∷ ("A7 A1 drawn afresh", (asking, telling 0 (int 3 ∷ []) (int 3) (int 4) true))
+    ∷ ("A7 A1 image 0 with a turn", (observing (int 2), telling 0 [] (int 3) (int 4) true))
+    ∷ ("A7 A1 point 1 again", (asking, telling 0 (int 5 ∷ []) (int 3) (int 4) true))
+    ∷ ("A7 A1 image 1 again", (observing (int 5), telling 0 [] (int 3) (int 4) true))
+    ∷ ("A7 A1 point 2 again", (asking, telling 0 (int 1 ∷ []) (int 3) (int 4) true))
+    ∷ ("A7 A1 image 2 again", (observing (minus 1), telling 0 [] (int 3) (int 4) true))
+    ∷ ("A7 A1 turned away", (measuringFlatStepped, telling 10 [] (int 3) (int 4) true))
     ∷ []
 
 -- A3 through the calls, on the same filter. Propagated 2, 11/4, 5/4 the points have the mean 2, and P = 9/16 + Q. The same x set again marks stale, so the next open draws afresh, by the root 5/4 of P. After another such prediction neither Q marks nor a setting refused by 6, and the points stand.
@@ -288,6 +373,63 @@ placeStory =
     ∷ ("A5 6 tells no place", (searching flawed (ones 10) (two (int 1) (int 1)) (kindsOf Plain (Turn (int 0)) Plain), placing 6 0 [] 4 0))
     ∷ ("A5 a pivot of S", (searching flawed (ones 10) (two (int 1) (int 1)) (kindsOf Plain Plain bad), placing 8 1 [] 4 0))
     ∷ ("A5 the first pivot of S", (searching (zeros 4) (ones 10) (two (int 1) (int 1)) (kindsOf Plain Plain bad), placing 8 0 [] 4 0))
+    ∷ []
+
+-- A7 on the same filter: places in an image, slices that are too short, a refused first image, images given up. Observed all 1 the points move nothing, so that x and P stay; and S is R
+abbrev pub askingTwo : Call
+askingTwo = stepping (ask (two nan nan))
+
+abbrev pub measuringAll : ℕ → List Float → Float → Call
+measuringAll m z r = closing-stepped (close-correction-stepped m z (r ∷ []) (replicate 4 plain))
+
+abbrev pub steppedPlaceStory : List (String × (Call × Told))
+steppedPlaceStory =
+    ("A7 two states", (setting open-prediction-stepped, placing 0 0 [] 4 0))
+    ∷ ("A7 a short buffer", (asking, placing 2 0 [] 4 0))
+    ∷ ("A7 that doesn't count", (stepping (image-prediction (two (int 1) (int 2))), placing 3 0 [] 4 0))
+    ∷ ("A7 point 0 of five", (askingTwo, placing 0 0 (two (int 1) (int 2)) 4 0))
+    ∷ ("A7 a short image", (imaging (int 1), placing 2 0 [] 4 0))
+    ∷ ("A7 image 0 of five", (stepping (image-prediction (two (int 1) (int 2))), placing 0 0 [] 4 0))
+    ∷ ("A7 point 1 of five", (askingTwo, placing 0 0 (two (int 5) (int 2)) 4 0))
+    ∷ ("A7 a place in this image", (stepping (image-prediction (two (int 5) nan)), placing 54 1 [] 4 0))
+    ∷ ("A7 image 1 of five", (stepping (image-prediction (two (int 5) (int 2))), placing 0 0 [] 4 0))
+    ∷ ("A7 an open meanwhile", (setting (open-prediction ten), placing 3 0 [] 4 0))
+    ∷ ("A7 given up with two images in", (abandon, placing 0 0 [] 4 0))
+    ∷ ("A7 a correction", (setting open-correction-stepped, placing 0 0 [] 4 0))
+    ∷ ("A7 its point isn't asked for", (observing (int 1), placing 3 0 [] 4 0))
+    ∷ ("A7 from point 0 again", (askingTwo, placing 0 0 (two (int 1) (int 2)) 4 0))
+    ∷ ("A7 a refused first image", (stepping (image-correction 2 (two nan (int 1))), placing 54 0 [] 4 0))
+    ∷ ("A7 names no m", (observing (int 1), placing 0 0 [] 4 0))
+    ∷ ("A7 five points, 1", (askingTwo, placing 0 0 (two (int 5) (int 2)) 4 0))
+    ∷ ("A7 five images, 1", (observing (int 1), placing 0 0 [] 4 0))
+    ∷ ("A7 five points, 2", (askingTwo, placing 0 0 (two (int 1) (int 6)) 4 0))
+    ∷ ("A7 five images, 2", (observing (int 1), placing 0 0 [] 4 0))
+    ∷ ("A7 five points, 3", (askingTwo, placing 0 0 (two (minus 3) (int 2)) 4 0))
+    ∷ ("A7 five images, 3", (observing (int 1), placing 0 0 [] 4 0))
+    ∷ ("A7 early, before a bad m", (measuringAll 9 (int 3 ∷ []) (int 1), placing 3 0 [] 4 0))
+    ∷ ("A7 five points, 4", (askingTwo, placing 0 0 (two (int 1) (minus 2)) 4 0))
+    ∷ ("A7 five images, 4", (observing (int 1), placing 0 0 [] 4 0))
+    ∷ ("A7 the other sort's close", (closing-stepped close-prediction-stepped, placing 3 0 [] 4 0))
+    ∷ ("A7 another m before a short z", (measuringAll 2 [] (int 1), placing 1 0 [] 4 0))
+    ∷ ("A7 a short z", (measuringAll 1 [] (int 1), placing 2 0 [] 4 0))
+    ∷ ("A7 a bad z", (measuringAll 1 (nan ∷ []) (int 1), placing 55 0 [] 4 0))
+    ∷ ("A7 S of zeros", (measuringAll 1 (int 3 ∷ []) (int 0), placing 8 0 [] 4 0))
+    ∷ ("A7 closed after all", (measuringAll 1 (int 3 ∷ []) (int 1), placing 0 0 [] 4 0))
+    ∷ []
+
+-- and on the sides of a pair: a stepped call bars changes of the sheet, and each side has its own points, images and asked mark
+abbrev pub steppedSidesStory : List (String × (SideCall × Told))
+steppedSidesStory =
+    ("A7 the first opens", (by First (setting open-prediction-stepped), telling 0 [] (int 2) (int 4) true))
+    ∷ ("A7 the sheet is barred", (by Second (writing (set-q (int 9 ∷ []))), telling 3 [] (int 3) (int 16) true))
+    ∷ ("A7 the second opens", (by Second (setting open-correction-stepped), telling 0 [] (int 3) (int 16) true))
+    ∷ ("A7 the second's point", (by Second asking, telling 0 (int 3 ∷ []) (int 3) (int 16) true))
+    ∷ ("A7 the first hasn't asked", (by First (imaging (int 2)), telling 3 [] (int 2) (int 4) true))
+    ∷ ("A7 the second's image", (by Second (observing (int 3)), telling 0 [] (int 3) (int 16) true))
+    ∷ ("A7 the first's point", (by First asking, telling 0 (int 2 ∷ []) (int 2) (int 4) true))
+    ∷ ("A7 the first gives up", (by First abandon, telling 0 [] (int 2) (int 4) true))
+    ∷ ("A7 the second goes on", (by Second asking, telling 0 (int 7 ∷ []) (int 3) (int 16) true))
+    ∷ ("A7 and bars the sheet", (by First (writing (set-q (int 9 ∷ []))), telling 3 [] (int 2) (int 4) true))
     ∷ []
 
 -- and, as the run goes on, by the flat close
@@ -469,6 +611,13 @@ flatCases =
     against flatStory (told binary64 (at-first binary64) (map (λ e. e .1 .0) flatStory))
     ++ drop (length placeStory) (against (placeStory ++ flatPlaceStory) (told binary64 (twoStates binary64) (map (λ e. e .1 .0) (placeStory ++ flatPlaceStory))))
 
+abbrev pub steppedCases : List (String × Bool)
+steppedCases =
+    against steppedStory (told binary64 (at-first binary64) (map (λ e. e .1 .0) steppedStory))
+    ++ (against steppedFlatStory (told binary64 (at-first binary64) (map (λ e. e .1 .0) steppedFlatStory))
+    ++ (against steppedPlaceStory (told binary64 (twoStates binary64) (map (λ e. e .1 .0) steppedPlaceStory))
+    ++ against steppedSidesStory (map (λ t. t .told) (pairTold binary64 both (map (λ e. e .1 .0) steppedSidesStory)))))
+
 abbrev pub pairCases : List (String × Bool)
 pairCases =
     let fine = ones 10 in
@@ -486,4 +635,4 @@ pairCases =
 
 -- by width
 abbrev pub cases : List (String × List (String × Bool))
-cases = ("f64", filterCases binary64 ++ (flatCases ++ pairCases)) ∷ ("f32", filterCases binary32) ∷ []
+cases = ("f64", filterCases binary64 ++ (flatCases ++ (steppedCases ++ pairCases))) ∷ ("f32", filterCases binary32) ∷ []

@@ -1,4 +1,4 @@
--- `Written` and `Cases`: the table of cases. `Rows` and `Listed`: the table of refusals and the listed results in the documents' words. `Runs` and `Sound`: what the demands speak of. `Settings`: what document 02's A3 does. `PairRuns` and `PairSound`: what `Runs` and `Sound` are, of pairs, and what a side notices (A4). `Useless`: builds that they stop.
+-- `Written` and `Cases`: the table of cases. `Rows` and `Listed`: the table of refusals and the listed results in the documents' words. `Runs` and `Sound`: what the demands speak of. `Settings`: what document 02's A3 does. `Rounds`: a call point by point (A7). `PairRuns` and `PairSound`: what `Runs` and `Sound` are, of pairs, and what a side notices (A4). `Useless`: builds that they stop.
 pub mod Written
 pub mod Cases
 pub mod Rows
@@ -6,6 +6,7 @@ pub mod Listed
 pub mod Runs
 pub mod Sound
 pub mod Settings
+pub mod Rounds
 pub mod PairRuns
 pub mod PairSound
 pub mod Useless

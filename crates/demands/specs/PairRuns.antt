@@ -8,8 +8,8 @@ use Rattle.floats.specs.Refusal.{STAGE, refused}
 use Rattle.filter.specs.declared.Sheet.{Sheet}
 use Rattle.filter.specs.declared.Track.{Track}
 use Rattle.filter.specs.declared.Filter.{Filter}
-use Rattle.filter.specs.Filters.{track, filter, isShut}
-use Rattle.filter.specs.Calls.{SheetCall, SetCall, Call, writing, setting, closing, abandon, reading}
+use Rattle.filter.specs.Filters.{withMark, filter, isShut}
+use Rattle.filter.specs.Calls.{SheetCall, SetCall, Call, writing, setting, stepping, closing, closing-stepped, abandon, reading}
 use Rattle.filter.specs.Steps.{Stepped, stepped, step}
 use Rattle.pairs.specs.declared.Pair.{Pair}
 use Rattle.pairs.specs.declared.Side.{Side}
@@ -85,7 +85,9 @@ abbrev pub fromPartner : Call → ℕ → List Heard
 fromPartner (writing c) zero = wrote c ∷ []
 fromPartner (writing c) (suc r) = []
 fromPartner (setting c) r = []
+fromPartner (stepping c) r = []
 fromPartner (closing c) r = []
+fromPartner (closing-stepped c) r = []
 fromPartner abandon r = []
 fromPartner (reading c) r = []
 
@@ -117,13 +119,15 @@ abbrev pub marksBy : Call → ℕ → Bool
 marksBy (writing c) zero = sheetMarks c
 marksBy (writing c) (suc r) = false
 marksBy (setting c) r = false
+marksBy (stepping c) r = false
 marksBy (closing c) r = false
+marksBy (closing-stepped c) r = false
 marksBy abandon r = false
 marksBy (reading c) r = false
 
 -- a track with a mark, if there is one
 abbrev pub remarked : Bool → Track → Track
-remarked m t = track (t .x) (t .p) (t .weights) (t .points) (m || t .stale) (t .stage) (t .«drawn_weights») (t .«drawn_points»)
+remarked m t = withMark (m || t .stale) t
 
 module _ (f : Format) where
   -- m: the mark so far

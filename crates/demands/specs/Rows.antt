@@ -1,4 +1,4 @@
--- The table of refusals in the documents' own words (51 to 56, 10 and the places are document 02's; that 3 is wider on a pair is in what a call on a side asks, `pairFits`), and when a number is due. Definitions only.
+-- The table of refusals in the documents' own words (51 to 56, 10 and the places are document 02's; what A7 adds to 3 and 1 is in what its calls ask, `fits` and `named`, and that 3 is wider on a pair in what a call on a side asks, `pairFits`), and when a number is due. Definitions only.
 use Prim.Native.Nat.{ℕ, _+_, _*_, _<_, _≤_}
 use mathlib.Core.Path.{_≡_}
 use mathlib.Core.Bool.{true, false}
@@ -22,7 +22,7 @@ use Rattle.sigma.specs.Weights.{scaleOf, w0mOf, w0cOf, wiOf}
 use Rattle.filter.specs.declared.Filter.{Filter}
 use Rattle.filter.specs.Filters.{isCorrecting, seen}
 use Rattle.filter.specs.Asked.{Size, Lent, Param, by-params, by-kind, Asks}
-use Rattle.filter.specs.Calls.{CloseCall, Call, writing, setting, closing, abandon, reading, set-x, set-p, set-q, set-params, set-kind, open-prediction, open-correction, close-prediction, close-correction, close-correction-flat, halves, asks}
+use Rattle.filter.specs.Calls.{CloseCall, SteppedClose, withList, Call, writing, setting, stepping, closing, closing-stepped, abandon, reading, set-x, set-p, set-q, set-params, set-kind, open-prediction, open-correction, open-prediction-stepped, open-correction-stepped, ask, image-prediction, image-correction, close-prediction, close-correction, close-correction-flat, close-prediction-stepped, close-correction-stepped, close-correction-flat-stepped, fits, sized, lend, halves, asKinds, Needs, named, needing, needingPlain, asking, asks}
 
 -- one of the list has P
 pub data Some {A : Type 0} (P : A → Type 0) : List A → Type 0 where
@@ -38,7 +38,7 @@ NotAbove x = lt plusZero x ≡ false
 abbrev pub Below : Float → Type 0
 Below x = lt x plusZero ≡ true
 
--- 1: n, m, a state index or k out of range
+-- 1: n, m, a state index or k out of range; the range of a later m of a stepped correction is the first image's m alone
 abbrev pub OutOfRange : Size → Type 0
 OutOfRange s = (s .value < s .from) ⊎ (s .to < s .value)
 
@@ -60,20 +60,30 @@ pub data FirstBad : Slice → ℕ → List Input → Type 0 where
   found : {i : ℕ} {x : Input} {l : List Input} → FirstIn (x .numbers) i → FirstBad (x .name) i (x ∷ l)
   further : {s : Slice} {i : ℕ} {x : Input} {l : List Input} → (Some NotFinite (x .numbers) → ⊥) → FirstBad s i l → FirstBad s i (x ∷ l)
 
--- what each call on a filter of n states searches: state, covariance, noise, points, measurement, lone values (a flat close has no half-turns, an empty slice)
-abbrev pub searches : ℕ → Call → List Input
-searches n (setting (set-x v)) = input State (take n v)
-searches n (setting (set-p v)) = input Covariance (take (n * n) v)
-searches n (writing (set-q v)) = input Noise (take (n * n) v)
-searches n (writing (set-params p)) = input Lone (p .alpha ∷ p .beta ∷ p .kappa ∷ [])
-searches n (writing (set-kind i k)) = input Lone (halfOf k ∷ [])
-searches n (closing (close-prediction v)) = input Points (take ((n + n + 1) * n) v)
-searches n (closing (close-correction m z r kinds observed)) = input Noise (take (m * m) r) ++ (input Points (take ((n + n + 1) * m) observed) ++ (input Measurement (take m z) ++ input Lone (halves (take m kinds))))
-searches n (closing (close-correction-flat m z r observed)) = input Noise (take (m * m) r) ++ (input Points (take ((n + n + 1) * m) observed) ++ (input Measurement (take m z) ++ input Lone []))
-searches n (setting (open-prediction b)) = []
-searches n (setting (open-correction b)) = []
-searches n abandon = []
-searches n (reading c) = []
+-- what a close searches
+abbrev pub closeSearches : ℕ → CloseCall → List Input
+closeSearches n (close-prediction v) = input Points (take ((n + n + 1) * n) v)
+closeSearches n (close-correction m z r kinds observed) = input Noise (take (m * m) r) ++ (input Points (take ((n + n + 1) * m) observed) ++ (input Measurement (take m z) ++ input Lone (halves (take m kinds))))
+closeSearches n (close-correction-flat m z r observed) = input Noise (take (m * m) r) ++ (input Points (take ((n + n + 1) * m) observed) ++ (input Measurement (take m z) ++ input Lone []))
+
+-- what each call on the filter s, of n states, searches: state, covariance, noise, points, measurement, lone values (a flat close has no half-turns, an empty slice). A stepped close searches the images that are in, which have passed as they were handed in
+abbrev pub searches : Filter → Call → List Input
+searches s (setting (set-x v)) = input State (take (s .sheet .n) v)
+searches s (setting (set-p v)) = input Covariance (take (s .sheet .n * s .sheet .n) v)
+searches s (writing (set-q v)) = input Noise (take (s .sheet .n * s .sheet .n) v)
+searches s (writing (set-params p)) = input Lone (p .alpha ∷ p .beta ∷ p .kappa ∷ [])
+searches s (writing (set-kind i k)) = input Lone (halfOf k ∷ [])
+searches s (stepping (image-prediction v)) = input Points (take (s .sheet .n) v)
+searches s (stepping (image-correction m v)) = input Points (take m v)
+searches s (closing c) = closeSearches (s .sheet .n) c
+searches s (closing-stepped c) = closeSearches (s .sheet .n) (withList c (s .track .kept .images))
+searches s (setting (open-prediction b)) = []
+searches s (setting (open-correction b)) = []
+searches s (setting open-prediction-stepped) = []
+searches s (setting open-correction-stepped) = []
+searches s (stepping (ask b)) = []
+searches s abandon = []
+searches s (reading c) = []
 
 -- slices in the order of their numbers, each once, after one of number k
 abbrev pub Ascending : ℕ → List Input → Type 0
@@ -163,20 +173,26 @@ Free f k s c = (d : Cause) → rank d < k → Applies f (asks (seen s) c) [] d �
 
 -- ---- what the steps of a call can give
 
--- the opens; the closes, of which two are a correction's; and the one call that asks kinds to be plain
+-- the opens; the closes, of which some are a correction's; and those that ask kinds to be plain
 pub data IsOpen : Call → Type 0 where
   of-prediction : {b : List Float} → IsOpen (setting (open-prediction b))
   of-correction : {b : List Float} → IsOpen (setting (open-correction b))
+  of-prediction-stepped : IsOpen (setting open-prediction-stepped)
+  of-correction-stepped : IsOpen (setting open-correction-stepped)
 
 pub data IsClose : Call → Type 0 where
   of-either : {c : CloseCall} → IsClose (closing c)
+  of-stepped : {c : SteppedClose} → IsClose (closing-stepped c)
 
 pub data IsCorrection : Call → Type 0 where
   by-weights : {m : ℕ} {z r : List Float} {kinds : List Kind} {observed : List Float} → IsCorrection (closing (close-correction m z r kinds observed))
   by-averages : {m : ℕ} {z r observed : List Float} → IsCorrection (closing (close-correction-flat m z r observed))
+  by-weights-stepped : {m : ℕ} {z r : List Float} {kinds : List Kind} → IsCorrection (closing-stepped (close-correction-stepped m z r kinds))
+  by-averages-stepped : {m : ℕ} {z r : List Float} → IsCorrection (closing-stepped (close-correction-flat-stepped m z r))
 
 pub data IsFlat : Call → Type 0 where
   flat : {m : ℕ} {z r observed : List Float} → IsFlat (closing (close-correction-flat m z r observed))
+  flat-stepped : {m : ℕ} {z r : List Float} → IsFlat (closing-stepped (close-correction-flat-stepped m z r))
 
 -- at the most: an open 7 at any row, and 56 at 0 for an N without a root; a close of a correction 8 at any row; each of these, and the close of a prediction, 9; another call nothing
 abbrev pub ByStep : Call → Refusal → Type 0
@@ -191,7 +207,7 @@ ByStep c (INNOV j) = IsCorrection c
 ByStep c RANGE = IsOpen c ⊎ IsClose c
 ByStep c KIND = ⊥
 
--- nothing stops a close of a correction before its kinds count: a correction is open, there are 1 to 8 states and 1 to 4 measurements, the slices are long enough and their numbers finite
+-- nothing stops a whole-list close of a correction before its kinds count: a correction is open with the whole list, there are 1 to 8 states and 1 to 4 measurements, the slices are long enough and their numbers finite
 pub record Measurable (s : Filter) (m : ℕ) (z r observed : List Float) : Type 0 where
   pub correcting : isCorrecting (s .track .stage) ≡ true
   pub states : (1 ≤ s .sheet .n) × (s .sheet .n ≤ 8)
@@ -208,3 +224,25 @@ Placed v = (v .place ≡ 0) ⊎ (((s : Slice) × (v .number ≡ sliceNumber s)) 
 -- neither one of 51 to 56 nor 6
 abbrev pub Neither : ℕ → Type 0
 Neither k = ((s : Slice) → k ≢ sliceNumber s) × (k ≢ 6)
+
+-- ---- what a stepped close asks, of a filter that the demands speak of (s as seen)
+
+-- that every image of its call is in, 1 to 8 states, m of 1 to 4 and the first image's, z and R long enough; R, z and the half-turns finite; then that the kinds pass 6 or, of a flat close, are plain (10). No list: the images have been judged
+abbrev pub steppedNeeds : Filter → SteppedClose → Needs
+steppedNeeds s close-prediction-stepped = needing [] [] false [] []
+steppedNeeds s (close-correction-stepped m z r kinds) =
+    needing (named (s .track .kept) m ++ sized m 1 4)
+    (lend z m ++ lend r (m * m))
+    false
+    (input Noise (take (m * m) r) ++ (input Measurement (take m z) ++ input Lone (halves (take m kinds))))
+    (asKinds (take m kinds))
+steppedNeeds s (close-correction-flat-stepped m z r) =
+    needingPlain (take (s .sheet .n) (s .sheet .kinds))
+    (needing (named (s .track .kept) m ++ sized m 1 4)
+    (lend z m ++ lend r (m * m))
+    false
+    (input Noise (take (m * m) r) ++ (input Measurement (take m z) ++ input Lone []))
+    [])
+
+abbrev pub steppedAsks : Filter → SteppedClose → Asks
+steppedAsks s c = asking (fits (closing-stepped c) s) (s .sheet .n) (steppedNeeds s c)

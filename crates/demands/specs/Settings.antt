@@ -9,7 +9,7 @@ use Rattle.sigma.specs.Weights.{w0mOf}
 use Rattle.sigma.specs.Mean.{meanOf}
 use Rattle.sigma.specs.Spread.{deviationsOf, spreadOf}
 use Rattle.filter.specs.declared.Filter.{Filter}
-use Rattle.filter.specs.Calls.{SheetCall, set-q, set-params, set-kind, SetCall, set-x, set-p, open-prediction, open-correction, close-prediction, Call, writing, setting, closing, abandon, reading}
+use Rattle.filter.specs.Calls.{SheetCall, set-q, set-params, set-kind, SetCall, set-x, set-p, open-prediction, open-correction, open-prediction-stepped, open-correction-stepped, close-prediction, close-prediction-stepped, Call, writing, setting, stepping, closing, closing-stepped, abandon, reading}
 use Rattle.filter.specs.Steps.{step}
 use Rattle.demands.specs.Sound.{Yielded}
 
@@ -24,23 +24,32 @@ marks (set-x v) = true
 marks (set-p v) = true
 marks (open-prediction b) = false
 marks (open-correction b) = false
+marks open-prediction-stepped = false
+marks open-correction-stepped = false
 
--- accepted, these leave x, P, the parameters, kinds, points, weights and the mark as they are: setting Q, opening, abandon, reading
+-- accepted, these leave x, P, the parameters, kinds, points, weights and the mark as they are: setting Q, opening, the steps of a stepped call, abandon, reading
 abbrev pub Unmarking : Call → Type 0
 Unmarking (writing c) = sheetMarks c ≡ false
 Unmarking (setting c) = marks c ≡ false
+Unmarking (stepping c) = Unit {0}
 Unmarking (closing c) = ⊥
+Unmarking (closing-stepped c) = ⊥
 Unmarking abandon = Unit {0}
 Unmarking (reading c) = Unit {0}
 
+-- the close of a prediction, either way
+pub data EndsPrediction : Call → Type 0 where
+  with-list : {v : List Float} → EndsPrediction (closing (close-prediction v))
+  in-steps : EndsPrediction (closing-stepped close-prediction-stepped)
+
 -- the filters that an accepted close of a prediction leaves, and those that calls after it yield, each of them refused or one of these
 pub data SincePredicted (f : Format) : Filter → Type 0 where
-  predicted : {s : Filter} → Yielded f s → (v : List Float) → step f s (closing (close-prediction v)) .reply .refusal .number ≡ 0 → SincePredicted f (step f s (closing (close-prediction v)) .filter)
+  predicted : {s : Filter} → Yielded f s → {c : Call} → EndsPrediction c → step f s c .reply .refusal .number ≡ 0 → SincePredicted f (step f s c .filter)
   unmarked : {s : Filter} → SincePredicted f s → (c : Call) → (step f s c .reply .refusal .number ≡ 0 → Unmarking c) → SincePredicted f (step f s c .filter)
 
 -- the Q of that prediction
 abbrev pub qThen : {f : Format} {s : Filter} → SincePredicted f s → List Float
-qThen (predicted {s = s} y v e) = s .sheet .q
+qThen (predicted {s = s} y c e) = s .sheet .q
 qThen (unmarked k c h) = qThen k
 
 -- x is the mean of the current points, and P is q + their spread, by the weights, parameters and kinds as they stand

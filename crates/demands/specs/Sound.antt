@@ -3,6 +3,7 @@ use Prim.Native.Nat.{ℕ, _+_, _-_, _*_, _≤_}
 use mathlib.Core.Path.{_≡_}
 use mathlib.Core.Bool.{true, false, not, _&&_, cond}
 use mathlib.Core.List.{List, [], _∷_, _++_}
+use lib.Dec.{eqb}
 use lib.ListN.{length, take, drop, getD}
 use lib.Ieee.{Float, Format}
 use Rattle.floats.specs.Refusal.{accepted}
@@ -13,8 +14,8 @@ use Rattle.sigma.specs.Weights.{scaleOf, weightsOf, weightsPass}
 use Rattle.sigma.specs.Draw.{pointNumbers, drawOf}
 use Rattle.filter.specs.declared.Filter.{Filter}
 use Rattle.filter.specs.declared.Weighted.{Weighted}
-use Rattle.filter.specs.Asked.{fit, every}
-use Rattle.filter.specs.Filters.{isShut, isCorrecting}
+use Rattle.filter.specs.Asked.{inRange, fit, every}
+use Rattle.filter.specs.Filters.{isShut, isCorrection, isStepped, nothingKept}
 use Rattle.filter.specs.Calls.{Call, halves, valuesOf, asKinds}
 use Rattle.filter.specs.Steps.{step}
 use Rattle.filter.specs.New.{newAnswer}
@@ -34,7 +35,19 @@ pub record Laid (f : Format) (n : ℕ) (p : Params) (w : Weighted) : Type 0 wher
 
 -- the points that an open call has drawn: in a correction while not stale the current ones; in any other those that the draw from x and P gives, by the parameters
 abbrev pub DrawnFrom : Format → Filter → Type 0
-DrawnFrom f s = cond (isCorrecting (s .track .stage) && not (s .track .stale)) (accepted (s .track .points)) (drawOf f (s .sheet .n) (s .track .x) (s .track .p) (scaleOf f (s .sheet .n) (s .sheet .params))) ≡ accepted (s .track .«drawn_points»)
+DrawnFrom f s = cond (isCorrection (s .track .stage) && not (s .track .stale)) (accepted (s .track .points)) (drawOf f (s .sheet .n) (s .track .x) (s .track .p) (scaleOf f (s .sheet .n) (s .sheet .params))) ≡ accepted (s .track .«drawn_points»)
+
+-- the numbers of an image in a stepped call: of a prediction n, of a correction the m that the first image has named
+abbrev pub each : Filter → ℕ
+each s = cond (isCorrection (s .track .stage)) (s .track .kept .m) (s .sheet .n)
+
+-- what a stepped call keeps: no more than 2n+1 images, finite and one after the other, with +0 behind them; m is 1 to 4 from the first image of a correction on, and else 0; what has been asked for is a point
+pub record Keeps (s : Filter) : Type 0 where
+  pub few : s .track .kept .at ≤ s .sheet .n + s .sheet .n + 1
+  pub images : Filled (s .track .kept .at * each s) 136 (s .track .kept .images)
+  pub unnamed : s .track .kept .at ≡ 0 → s .track .kept .m ≡ 0
+  pub named : 1 ≤ s .track .kept .at → cond (isCorrection (s .track .stage)) (inRange 1 4 (s .track .kept .m)) (eqb (s .track .kept .m) 0) ≡ true
+  pub asked : s .track .kept .asked ≡ true → s .track .kept .at ≤ s .sheet .n + s .sheet .n
 
 -- THE INVARIANT
 pub record Sound (f : Format) (s : Filter) : Type 0 where
@@ -54,13 +67,16 @@ pub record Sound (f : Format) (s : Filter) : Type 0 where
   pub current : s .track .stale ≡ false → Laid f (s .sheet .n) (s .sheet .params) (record { weights = s .track .weights; points = s .track .points })
   pub drawn : isShut (s .track .stage) ≡ false → Laid f (s .sheet .n) (s .sheet .params) (record { weights = s .track .«drawn_weights»; points = s .track .«drawn_points» })
   pub drawn-from : isShut (s .track .stage) ≡ false → DrawnFrom f s
+  -- what is kept counts in a stepped call
+  pub kept : isStepped (s .track .stage) ≡ true → Keeps s
 
--- beside it, of a filter that no one has put at will: points and weights are finite with +0 in unused places while stale too, and scratch is +0 while nothing is open
+-- beside it, of a filter that no one has put at will: points and weights are finite with +0 in unused places while stale too, scratch is +0 while nothing is open, and nothing is kept but in a stepped call
 pub record Tidy (s : Filter) : Type 0 where
   pub points : Filled (pointNumbers (s .sheet .n)) 136 (s .track .points)
   pub weights : Filled (s .sheet .n + s .sheet .n + 1) 17 (s .track .weights)
   pub scratch-weights : isShut (s .track .stage) ≡ true → s .track .«drawn_weights» ≡ zeros 17
   pub scratch-points : isShut (s .track .stage) ≡ true → s .track .«drawn_points» ≡ zeros 136
+  pub scratch-kept : isStepped (s .track .stage) ≡ false → s .track .kept ≡ nothingKept
 
 module _ (f : Format) where
   -- the filters that New and later calls yield

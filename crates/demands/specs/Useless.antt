@@ -11,8 +11,8 @@ use Rattle.floats.specs.Numbers.{plusZero, zeros}
 use Rattle.matrix.specs.Results.{planned}
 use Rattle.filter.specs.declared.Track.{Track}
 use Rattle.filter.specs.declared.Filter.{Filter}
-use Rattle.filter.specs.Filters.{track, filter, seen}
-use Rattle.filter.specs.Calls.{SetCall, set-x, set-p, open-prediction, open-correction, Call, writing, setting, closing, abandon, reading, asks, plan}
+use Rattle.filter.specs.Filters.{track, withMark, keeping, filter, seen}
+use Rattle.filter.specs.Calls.{SetCall, set-x, set-p, open-prediction, open-correction, open-prediction-stepped, open-correction-stepped, Call, writing, setting, stepping, closing, closing-stepped, abandon, reading, asks, plan}
 use Rattle.filter.specs.Steps.{Stepped, stepped, step}
 use Rattle.demands.specs.Rows.{Due}
 use Rattle.demands.specs.Runs.{Told, tells, Alike}
@@ -57,7 +57,7 @@ constant s c =
     let t = step binary64 s c in
     let v = t .filter .track in
     record {
-      filter = filter (t .filter .sheet) (track (zeros 8) (zeros 64) (v .weights) (v .points) (v .stale) (v .stage) (v .«drawn_weights») (v .«drawn_points»));
+      filter = filter (t .filter .sheet) (track (zeros 8) (zeros 64) (v .weights) (v .points) (v .stale) (v .stage) (v .«drawn_weights») (v .«drawn_points») (v .kept));
       reply = record { refusal = t .reply .refusal; given = zeros (length (t .reply .given)); stale = t .reply .stale };
     }
 
@@ -67,32 +67,36 @@ untouched s c = record { filter = s; reply = step binary64 s c .reply }
 
 -- redraws at the first correction only: where weights have been installed before, an open correction goes by them and their points, stale or not
 abbrev pub marking : Bool → Filter → Filter
-marking m s = let t = s .track in filter (s .sheet) (track (t .x) (t .p) (t .weights) (t .points) m (t .stage) (t .«drawn_weights») (t .«drawn_points»))
+marking m s = filter (s .sheet) (withMark m (s .track))
 
 abbrev pub opensCorrection : SetCall → Bool
 opensCorrection (set-x v) = false
 opensCorrection (set-p v) = false
 opensCorrection (open-prediction b) = false
 opensCorrection (open-correction b) = true
+opensCorrection open-prediction-stepped = false
+opensCorrection open-correction-stepped = true
 
 abbrev pub firstOnly : Build
 firstOnly s (writing c) = step binary64 s (writing c)
 firstOnly s (setting c) =
     let t = step binary64 (marking (s .track .stale && (getD (s .track .weights) 1 nan is plusZero)) s) (setting c) in
     cond (opensCorrection c) (record { filter = marking (s .track .stale) (t .filter); reply = t .reply }) (step binary64 s (setting c))
+firstOnly s (stepping c) = step binary64 s (stepping c)
 firstOnly s (closing c) = step binary64 s (closing c)
+firstOnly s (closing-stepped c) = step binary64 s (closing-stepped c)
 firstOnly s abandon = step binary64 s abandon
 firstOnly s (reading c) = step binary64 s (reading c)
 
 -- ---- points, weights and scratch put at will; the filter of C9 with such
 
--- a track with 3 and 6 for points and v for weights, current and drawn
+-- a track with 3 and 6 for points and v for weights, current and drawn, and what a stepped call might have kept: five images of nines, the next point asked for, m = 3
 abbrev pub strewn : Track → Float → Track
-strewn t v = track (t .x) (t .p) (replicate 17 v) (replicate 136 (int 3)) (t .stale) (t .stage) (replicate 17 v) (replicate 136 (int 6))
+strewn t v = track (t .x) (t .p) (replicate 17 v) (replicate 136 (int 3)) (t .stale) (t .stage) (replicate 17 v) (replicate 136 (int 6)) (keeping 5 true 3 (replicate 136 (int 9)))
 
 abbrev pub at-will : Format → Filter
 at-will f = filter (at-first f .sheet) (strewn (at-first f .track) (int 7))
 
 -- the first of each
 abbrev pub leftovers : Track → List Float
-leftovers t = take 1 (t .points) ++ (take 1 (t .weights) ++ (take 1 (t .«drawn_points») ++ take 1 (t .«drawn_weights»)))
+leftovers t = take 1 (t .points) ++ (take 1 (t .weights) ++ (take 1 (t .«drawn_points») ++ (take 1 (t .«drawn_weights») ++ take 1 (t .kept .images))))

@@ -1,8 +1,8 @@
--- The demands of the f32 filter (document 02, A6), said of its own steps, runs and filters. Each is by a theorem of `demands`, which are over the format, at binary32. What isn't said again here holds so too, of the filter read wide: the first section leads from one to the other. Assumes nothing.
+-- The demands of the f32 filter (document 02, A6), said of its own calls, steps, runs and filters. Each is by a theorem of `demands`, which are over the format, at binary32. What isn't said again here holds so too, of the filter read wide: the first section leads from one to the other. Assumes nothing.
 use Prim.Native.Nat.{ℕ}
 use mathlib.Core.Path.{_≡_, refl, sym, ap, _∙_, subst}
 use mathlib.Core.Bool.{true, false, _||_}
-use mathlib.Core.List.{List, [], _∷_, _++_}
+use mathlib.Core.List.{List, [], _∷_, _++_, map}
 use mathlib.Core.Logic.{_↔_, _≢_, _⊎_}
 use lib.Dec.{T}
 use lib.Ieee.{Float, binary32, fits}
@@ -18,7 +18,6 @@ use Rattle.root.proofs.Answers.{one-case}
 use Rattle.angles.specs.Wrap.{wrapOf, wrapped}
 use Rattle.angles.specs.Kinds.{throughOf, kindOf}
 use Rattle.angles.specs.Exact.{Wraps}
-use Rattle.angles.specs.declared.Kind.{Kind}
 use Rattle.angles.specs.declared.Residual.the-variants.{Turn}
 use Rattle.matrix.specs.Results.{planned}
 use Rattle.matrix.specs.Factored.{BadPivot}
@@ -26,50 +25,52 @@ use Rattle.sigma.specs.Weights.{weightsOf}
 use Rattle.filter.specs.declared.Filter.{Filter as Wide}
 use Rattle.filter.specs.declared.Answer.{Answer as WideAnswer}
 use Rattle.filter.specs.Filters.{isShut, seen, abandoned}
-use Rattle.filter.specs.Calls.{Call, SetCall, SheetCall, writing, setting, closing, abandon, open-prediction, open-correction, close-correction, asks, plan, weightedFrom}
+use Rattle.filter.specs.Calls.{asks, plan, weightedFrom}
 use Rattle.filter.specs.Steps.{step, answered}
 use Rattle.filter.specs.New.{empty, from, newAsks, newAnswer}
 use Rattle.root32.specs.declared.Root.{Root}
 use Rattle.root32.specs.Wide.{wideRoot}
+use Rattle.angles32.specs.declared.Kind.{Kind}
+use Rattle.angles32.specs.Wide.{wideKinds}
 use Rattle.sigma32.specs.declared.Params.{Params}
 use Rattle.sigma32.specs.Wide.{wideParams}
 use Rattle.filter32.specs.declared.Filter.{Filter}
 use Rattle.filter32.specs.declared.Answer.{Answer}
 use Rattle.filter32.specs.Wide.{wideFilter, wideAnswer}
-use Rattle.demands.specs.Rows.{Some, Fails, FirstBad, searches, IsOpen, IsFlat, Cause, Applies, Due, Free, Placed, Neither}
+use Rattle.demands.specs.Rows.{Some, Fails, FirstBad, searches, IsOpen, of-prediction, of-correction, Cause, Applies, Due, Free, Placed, Neither}
 use Rattle.demands.specs.Listed.{listedAtHead}
-use Rattle.demands.specs.Runs.{told as toldWide, Alike as AlikeWide, StaysOpen as StaysOpenWide}
+use Rattle.demands.specs.Runs.{told as toldWide, Alike as AlikeWide}
 use Rattle.demands.specs.Settings.{sheetMarks, marks}
 use Rattle.demands.specs.Sound.{Sound, Tidy, Yielded as YieldedWide, Reached as ReachedWide, handedOut, Each}
 use Rattle.demands.proofs.Demand1 as demand1
 use Rattle.demands.proofs.Demand2 as demand2
 use Rattle.demands.proofs.Demand3 as demand3
 use Rattle.demands.proofs.Settings as settings
+use Rattle.demands32.specs.Calls.{SheetCall, SetCall, open-prediction, open-correction, close-correction, Call, writing, setting, closing, abandon, wideSheetCall, wideSetCall, wideCall}
 use Rattle.demands32.specs.Narrow.{narrowFilter}
 use Rattle.demands32.specs.Runs.{stepNarrow, newNarrow, told, ranTo, Alike, StaysOpen, Struck, rest, Reached, Yielded}
-use Rattle.demands32.proofs.OneToOne.{back-filter, forth-filter, one-root, one-answer}
-use Rattle.demands32.proofs.Carried.{step-carried, told-carried, ran-carried, alike-carried, reached-carried, yielded-carried, stays-carried, struck-carried}
+use Rattle.demands32.proofs.OneToOne.{back-filter, one-root, one-answer}
+use Rattle.demands32.proofs.Carried.{none-flat, step-carried, new-carried, told-carried, alike-carried, reached-carried, yielded-carried, opened-carried, abandoned-carried, struck-carried}
 
 -- ---- From the code to here, and from here to `demands`
 
 -- An answer that meets the contract of a call on s has the filter, the number and the place of `stepNarrow`, and one that meets New's is `newNarrow`.
-pub handed-back : (s : Filter) (c : Call) (a : Answer) → wideAnswer a ≡ answered (step binary32 (wideFilter s) c) → (a .filter ≡ stepNarrow s c .filter) × (a .refusal ≡ stepNarrow s c .reply .refusal)
+pub handed-back : (s : Filter) (c : Call) (a : Answer) → wideAnswer a ≡ answered (step binary32 (wideFilter s) (wideCall c)) → (a .filter ≡ stepNarrow s c .filter) × (a .refusal ≡ stepNarrow s c .reply .refusal)
 handed-back s c a e = (sym (back-filter (a .filter)) ∙ ap (λ (v : WideAnswer). narrowFilter (v .filter)) e, ap (λ (v : WideAnswer). v .refusal) e)
 
 pub new-handed-back : (n : ℕ) (x p q : List Float) (params : Params) (a : Answer) → wideAnswer a ≡ newAnswer binary32 n x p q (wideParams params) → a ≡ newNarrow n x p q params
 new-handed-back n x p q params a e =
-    let w = newAnswer binary32 n x p q (wideParams params) in
-    one-answer a (newNarrow n x p q params) (e ∙ ap (λ (s : Wide). record { filter = s; refusal = w .refusal }) (sym (forth-filter (w .filter))))
+    one-answer a (newNarrow n x p q params) (e ∙ ap (λ (s : Wide). record { filter = s; refusal = newNarrow n x p q params .refusal }) (sym (new-carried n x p q params)))
 
 -- What it tells is the reply of `filter`'s step itself, so that the contracts of opens and readings, which say what is handed out, speak of it as they stand.
-pub reply-as-it-is : (s : Filter) (c : Call) → stepNarrow s c .reply ≡ step binary32 (wideFilter s) c .reply
+pub reply-as-it-is : (s : Filter) (c : Call) → stepNarrow s c .reply ≡ step binary32 (wideFilter s) (wideCall c) .reply
 reply-as-it-is s c = refl
 
 -- The filter after a step, read wide, is that of `filter`'s step, and a run tells what it tells there; so do the filters that the demands speak of belong to those there.
-pub step-read-wide : (s : Filter) (c : Call) → wideFilter (stepNarrow s c .filter) ≡ step binary32 (wideFilter s) c .filter
+pub step-read-wide : (s : Filter) (c : Call) → wideFilter (stepNarrow s c .filter) ≡ step binary32 (wideFilter s) (wideCall c) .filter
 step-read-wide = step-carried
 
-pub told-read-wide : (s : Filter) (cs : List Call) → told s cs ≡ toldWide binary32 (wideFilter s) cs
+pub told-read-wide : (s : Filter) (cs : List Call) → told s cs ≡ toldWide binary32 (wideFilter s) (map wideCall cs)
 told-read-wide = told-carried
 
 pub yielded-read-wide : {s : Filter} → Yielded s → YieldedWide binary32 (wideFilter s)
@@ -85,13 +86,13 @@ alike-read-wide = alike-carried
 
 -- Any call on any bits ends with 0 at place 0, or with a refusal's number at its place; a number at its place is given exactly when its row applies there and none before it, and the call is taken exactly when none does.
 pub a-result-or-a-refusal : (s : Filter) (c : Call) → (stepNarrow s c .reply .refusal ≡ taken) ⊎ ((r : Refusal) × (stepNarrow s c .reply .refusal ≡ verdict r))
-a-result-or-a-refusal s c = demand1.a-result-or-a-refusal binary32 (wideFilter s) c
+a-result-or-a-refusal s c = demand1.a-result-or-a-refusal binary32 (wideFilter s) (wideCall c)
 
-pub exactly-when : (s : Filter) (c : Call) (r : Refusal) → (stepNarrow s c .reply .refusal ≡ verdict r) ↔ Due binary32 (asks (seen (wideFilter s)) c) (planned (plan binary32 (seen (wideFilter s)) c)) r
-exactly-when s = demand1.exactly-when binary32 (wideFilter s)
+pub exactly-when : (s : Filter) (c : Call) (r : Refusal) → (stepNarrow s c .reply .refusal ≡ verdict r) ↔ Due binary32 (asks (seen (wideFilter s)) (wideCall c)) (planned (plan binary32 (seen (wideFilter s)) (wideCall c))) r
+exactly-when s c = demand1.exactly-when binary32 (wideFilter s) (wideCall c)
 
-pub taken-when : (s : Filter) (c : Call) → (stepNarrow s c .reply .refusal ≡ taken) ↔ ((d : Cause) → Applies binary32 (asks (seen (wideFilter s)) c) (planned (plan binary32 (seen (wideFilter s)) c)) d → ⊥)
-taken-when s = demand1.taken-when binary32 (wideFilter s)
+pub taken-when : (s : Filter) (c : Call) → (stepNarrow s c .reply .refusal ≡ taken) ↔ ((d : Cause) → Applies binary32 (asks (seen (wideFilter s)) (wideCall c)) (planned (plan binary32 (seen (wideFilter s)) (wideCall c))) d → ⊥)
+taken-when s c = demand1.taken-when binary32 (wideFilter s) (wideCall c)
 
 -- The same of New.
 pub new-exactly-when : (n : ℕ) (x p q : List Float) (params : Params) (r : Refusal) → (newNarrow n x p q params .refusal ≡ verdict r) ↔ Due binary32 (newAsks n (from x p ∷ []) q (wideParams params)) [] r
@@ -100,45 +101,45 @@ new-exactly-when n x p q params = demand1.new-exactly-when binary32 n x p q (wid
 pub new-taken-when : (n : ℕ) (x p q : List Float) (params : Params) → (newNarrow n x p q params .refusal ≡ taken) ↔ ((d : Cause) → Applies binary32 (newAsks n (from x p ∷ []) q (wideParams params)) [] d → ⊥)
 new-taken-when n x p q params = demand1.new-taken-when binary32 n x p q (wideParams params)
 
--- From every call but the opens, 51 to 56 tell the first bad number in the order of the search,
-pub number-when : (s : Filter) (c : Call) → (IsOpen c → ⊥) → (t : Slice) (i : ℕ) → (stepNarrow s c .reply .refusal ≡ verdict (NUMBER t i)) ↔ (Free binary32 4 (wideFilter s) c × FirstBad t i (searches (s .sheet .n) c))
-number-when s = demand1.number-when binary32 (wideFilter s)
+-- From every call but the opens, 51 to 56 tell the first bad number in the order of the search (no images are kept, and none are searched),
+pub number-when : (s : Filter) (c : Call) → (IsOpen (wideCall c) → ⊥) → (t : Slice) (i : ℕ) → (stepNarrow s c .reply .refusal ≡ verdict (NUMBER t i)) ↔ (Free binary32 4 (wideFilter s) (wideCall c) × FirstBad t i (searches (wideFilter s) (wideCall c)))
+number-when s c = demand1.number-when binary32 (wideFilter s) (wideCall c)
 
 -- 7 the row of the first bad pivot of P, and 8 that of S;
-pub pivot-at-open-prediction : (s : Filter) (b : List Float) (j : ℕ) → let c = setting (open-prediction b) in (stepNarrow s c .reply .refusal ≡ verdict (PIVOT j)) ↔ (Free binary32 7 (wideFilter s) c × BadPivot binary32 (s .track .p) (s .sheet .n) j)
+pub pivot-at-open-prediction : (s : Filter) (b : List Float) (j : ℕ) → let c = setting (open-prediction b) in (stepNarrow s c .reply .refusal ≡ verdict (PIVOT j)) ↔ (Free binary32 7 (wideFilter s) (wideCall c) × BadPivot binary32 (s .track .p) (s .sheet .n) j)
 pivot-at-open-prediction s = demand1.pivot-at-open-prediction binary32 (wideFilter s)
 
-pub pivot-at-open-correction : (s : Filter) (b : List Float) (j : ℕ) → let c = setting (open-correction b) in (stepNarrow s c .reply .refusal ≡ verdict (PIVOT j)) ↔ (Free binary32 7 (wideFilter s) c × ((s .track .stale ≡ true) × BadPivot binary32 (s .track .p) (s .sheet .n) j))
+pub pivot-at-open-correction : (s : Filter) (b : List Float) (j : ℕ) → let c = setting (open-correction b) in (stepNarrow s c .reply .refusal ≡ verdict (PIVOT j)) ↔ (Free binary32 7 (wideFilter s) (wideCall c) × ((s .track .stale ≡ true) × BadPivot binary32 (s .track .p) (s .sheet .n) j))
 pivot-at-open-correction s = demand1.pivot-at-open-correction binary32 (wideFilter s)
 
-pub pivot-at-correction : (s : Filter) (m : ℕ) (z r : List Float) (kinds : List Kind) (observed : List Float) (j : ℕ) → let c = closing (close-correction m z r kinds observed) in let h = weightedFrom binary32 (seen (wideFilter s)) m z r kinds observed in
-    (stepNarrow s c .reply .refusal ≡ verdict (INNOV j)) ↔ (Free binary32 7 (wideFilter s) c × ((Some Fails (listedAtHead binary32 h) → ⊥) × BadPivot binary32 (h .s) m j))
-pivot-at-correction s = demand1.pivot-at-correction binary32 (wideFilter s)
+pub pivot-at-correction : (s : Filter) (m : ℕ) (z r : List Float) (kinds : List Kind) (observed : List Float) (j : ℕ) → let c = closing (close-correction m z r kinds observed) in let h = weightedFrom binary32 (seen (wideFilter s)) m z r (wideKinds kinds) observed in
+    (stepNarrow s c .reply .refusal ≡ verdict (INNOV j)) ↔ (Free binary32 7 (wideFilter s) (wideCall c) × ((Some Fails (listedAtHead binary32 h) → ⊥) × BadPivot binary32 (h .s) m j))
+pivot-at-correction s m z r kinds = demand1.pivot-at-correction binary32 (wideFilter s) m z r (wideKinds kinds)
 
 -- beside every other answer stands place 0. 10 belongs to the flat close, so that no call of the f32 filter gives it,
 pub no-other-place : (s : Filter) (c : Call) → Placed (stepNarrow s c .reply .refusal)
-no-other-place s = demand1.no-other-place binary32 (wideFilter s)
+no-other-place s c = demand1.no-other-place binary32 (wideFilter s) (wideCall c)
 
-pub no-kind : (s : Filter) (c : Call) → (IsFlat c → ⊥) → stepNarrow s c .reply .refusal .number ≢ 10
-no-kind s c h e = h (demand1.kind-by-flat-alone binary32 (wideFilter s) c e)
+pub no-kind : (s : Filter) (c : Call) → stepNarrow s c .reply .refusal .number ≢ 10
+no-kind s c e = none-flat c (demand1.kind-by-flat-alone binary32 (wideFilter s) (wideCall c) e)
 
 -- and opening gives none of 51 to 56 and not 6, on any filter that the demands speak of.
 pub opening-prediction-never : {s : Filter} → Yielded s → (b : List Float) → Neither (stepNarrow s (setting (open-prediction b)) .reply .refusal .number)
-opening-prediction-never y = demand1.opening-prediction-never binary32 (yielded-carried y)
+opening-prediction-never y b = demand1.opening-gives-neither binary32 (yielded-carried y) of-prediction
 
 pub opening-correction-never : {s : Filter} → Yielded s → (b : List Float) → Neither (stepNarrow s (setting (open-correction b)) .reply .refusal .number)
-opening-correction-never y = demand1.opening-correction-never binary32 (yielded-carried y)
+opening-correction-never y b = demand1.opening-gives-neither binary32 (yielded-carried y) of-correction
 
 -- A refused call leaves the filter and a lent buffer as they were, and a refused New gives the empty filter.
 pub refused-changes-nothing : (s : Filter) (c : Call) → stepNarrow s c .reply .refusal .number ≢ 0 → (stepNarrow s c .filter ≡ s) × ((b : List Float) → over (stepNarrow s c .reply .given) b ≡ b)
-refused-changes-nothing s c h = let k = demand1.refused-changes-nothing binary32 (wideFilter s) c h in (ap narrowFilter (k .0) ∙ back-filter s, k .1)
+refused-changes-nothing s c h = let k = demand1.refused-changes-nothing binary32 (wideFilter s) (wideCall c) h in (ap narrowFilter (k .0) ∙ back-filter s, k .1)
 
 pub refused-new : (n : ℕ) (x p q : List Float) (params : Params) → newNarrow n x p q params .refusal .number ≢ 0 → newNarrow n x p q params .filter ≡ narrowFilter empty
 refused-new n x p q params h = ap narrowFilter (demand1.refused-new binary32 n x p q (wideParams params) h)
 
 -- Every number handed out, and x and P after every call, is finite, over any run on any filter that the demands speak of; such a filter is sound, and one that New and calls yield is tidy too.
 pub every-number-is-finite : (s : Filter) → Yielded s → (cs : List Call) → Each (λ t. allFinite (handedOut t) ≡ true) (told s cs)
-every-number-is-finite s y cs = subst (Each (λ t. allFinite (handedOut t) ≡ true)) (sym (told-carried s cs)) (demand1.every-number-is-finite binary32 (wideFilter s) (yielded-carried y) cs)
+every-number-is-finite s y cs = subst (Each (λ t. allFinite (handedOut t) ≡ true)) (sym (told-carried s cs)) (demand1.every-number-is-finite binary32 (wideFilter s) (yielded-carried y) (map wideCall cs))
 
 pub yielded-is-sound : {s : Filter} → Yielded s → Sound binary32 (wideFilter s)
 yielded-is-sound y = demand1.yielded-is-sound binary32 (yielded-carried y)
@@ -168,11 +169,11 @@ turn-is-exact = demand2.turn-is-exact binary32
 -- ---- Settings (A3)
 
 -- An accepted setting of x, P, the parameters or a kind marks the filter stale, one of Q does not;
-pub setting-marks : (s : Filter) (c : SetCall) → stepNarrow s (setting c) .reply .refusal .number ≡ 0 → stepNarrow s (setting c) .filter .track .stale ≡ (marks c || s .track .stale)
-setting-marks s = settings.setting-marks binary32 (wideFilter s)
+pub setting-marks : (s : Filter) (c : SetCall) → stepNarrow s (setting c) .reply .refusal .number ≡ 0 → stepNarrow s (setting c) .filter .track .stale ≡ (marks (wideSetCall c) || s .track .stale)
+setting-marks s c = settings.setting-marks binary32 (wideFilter s) (wideSetCall c)
 
-pub writing-marks : (s : Filter) (c : SheetCall) → stepNarrow s (writing c) .reply .refusal .number ≡ 0 → stepNarrow s (writing c) .filter .track .stale ≡ (sheetMarks c || s .track .stale)
-writing-marks s = settings.writing-marks binary32 (wideFilter s)
+pub writing-marks : (s : Filter) (c : SheetCall) → stepNarrow s (writing c) .reply .refusal .number ≡ 0 → stepNarrow s (writing c) .filter .track .stale ≡ (sheetMarks (wideSheetCall c) || s .track .stale)
+writing-marks s c = settings.writing-marks binary32 (wideFilter s) (wideSheetCall c)
 
 -- so the weights that count, current or drawn, are those of the parameters as they stand.
 pub current-weights : {s : Filter} → Yielded s → s .track .stale ≡ false → s .track .weights ≡ weightsOf binary32 (s .sheet .n) (wideParams (s .sheet .params))
@@ -185,7 +186,7 @@ drawn-weights y = settings.drawn-weights binary32 (yielded-carried y)
 
 -- Two filters of one size, nothing open, both stale, alike but for points, weights and scratch: any same calls, refused ones included, tell the same.
 pub same-told : (s t : Filter) → Alike s t → (cs : List Call) → told s cs ≡ told t cs
-same-told s t a cs = told-carried s cs ∙ demand3.same-told binary32 (wideFilter s) (wideFilter t) (alike-carried a) cs ∙ sym (told-carried t cs)
+same-told s t a cs = told-carried s cs ∙ demand3.same-told binary32 (wideFilter s) (wideFilter t) (alike-carried a) (map wideCall cs) ∙ sym (told-carried t cs)
 
 -- Striking refused calls, or an open with everything up to its abandon, changes none of the rest.
 pub same-rest : {s : Filter} {cs ds : List Call} (k : Struck s cs ds) → rest k ≡ told s ds
@@ -193,6 +194,4 @@ same-rest {s} {cs} {ds} k = let h = struck-carried k in sym (h .same) ∙ demand
 
 -- For an open call, abandoned, leaves the filter as it was in every bit but scratch, which is +0.
 pub abandon-restores : (s : Filter) (c : Call) (mid : List Call) → isShut (s .track .stage) ≡ true → StaysOpen (stepNarrow s c .filter) mid → ranTo s (c ∷ mid ++ (abandon ∷ [])) ≡ narrowFilter (abandoned (wideFilter s))
-abandon-restores s c mid h k =
-    let open-there = subst (λ (t : Wide). StaysOpenWide binary32 t mid) (step-read-wide s c) (stays-carried (stepNarrow s c .filter) mid k) in
-    sym (back-filter _) ∙ ap narrowFilter (ran-carried s (c ∷ mid ++ (abandon ∷ [])) ∙ demand3.abandon-restores binary32 (wideFilter s) c mid h open-there)
+abandon-restores s c mid h k = sym (back-filter _) ∙ ap narrowFilter (abandoned-carried s c mid ∙ demand3.abandon-restores binary32 (wideFilter s) (wideCall c) (map wideCall mid) h (opened-carried s c mid k))

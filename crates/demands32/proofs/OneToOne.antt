@@ -1,4 +1,4 @@
--- What is read wide and back is what it was, and the other way: each f32 record is one f64 record, and each f64 filter is one f32 filter. Assumes nothing.
+-- What is read wide and back is what it was, and the other way: each f32 record is one f64 record, and each f64 filter that keeps nothing is one f32 filter. Assumes nothing.
 use mathlib.Core.Path.{_≡_, refl, sym, ap, ap₂, _∙_}
 use mathlib.Core.List.{List, [], _∷_}
 use Rattle.floats.specs.declared.Verdict.{Verdict}
@@ -10,14 +10,13 @@ use Rattle.matrix.specs.declared.factor.Factor.{Factor}
 use Rattle.sigma.specs.declared.Drawn.{Drawn}
 use Rattle.sigma.specs.declared.Moments.{Moments}
 use Rattle.sigma.specs.declared.weights.Weighting.{Weighting}
-use Rattle.filter.specs.declared.Sheet.{Sheet}
+use Rattle.filter.specs.declared.Kept.{Kept}
 use Rattle.filter.specs.declared.Filter.{Filter}
 use Rattle.filter.specs.declared.Answer.{Answer}
 use Rattle.filter.specs.declared.ParamsRead.{ParamsRead}
 use Rattle.filter.specs.declared.new.NewSheet.{NewSheet}
 use Rattle.filter.specs.declared.new.NewTrack.{NewTrack}
-use Rattle.filter.specs.declared.Track.{Track}
-use Rattle.filter.specs.Filters.{sheet, filter}
+use Rattle.filter.specs.Filters.{sheet, filter, nothingKept, withKept}
 use Rattle.root32.specs.declared.Root.{Root as Root32}
 use Rattle.root32.specs.declared.Root.the-variants.{Value as Value32, Refused as Refused32}
 use Rattle.angles32.specs.declared.Wrapped.{Wrapped as Wrapped32}
@@ -149,5 +148,6 @@ unfolding wideKinds narrowKinds
 forth-kinds [] = refl
 forth-kinds (k ∷ ks) = ap₂ (λ (r : Residual) (l : List Kind). record { residual = r } ∷ l) (forth-residual (k .residual)) (forth-kinds ks)
 
-pub forth-filter : (s : Filter) → wideFilter (narrowFilter s) ≡ s
-forth-filter s = ap (λ (ks : List Kind). filter (sheet (s .sheet .n) (s .sheet .q) (s .sheet .params) ks) (s .track)) (forth-kinds (s .sheet .kinds))
+-- of a filter that keeps nothing: what a stepped call keeps has no place at f32
+pub forth-filter : (s : Filter) → s .track .kept ≡ nothingKept → wideFilter (narrowFilter s) ≡ s
+forth-filter s h = ap₂ (λ (ks : List Kind) (k : Kept). filter (sheet (s .sheet .n) (s .sheet .q) (s .sheet .params) ks) (withKept (s .track) k)) (forth-kinds (s .sheet .kinds)) (sym h)

@@ -1,4 +1,4 @@
--- The filter of f64 and what stands in it, and the root's answer, with the types of f32: back from `wide..`, and each undoes the other (proofs/OneToOne.antt). No number changes. Definitions only.
+-- The filter of f64 and what stands in it, and the root's answer, with the types of f32: back from `wide..`, and each undoes the other, for filters that keep nothing (proofs/OneToOne.antt). What a stepped call keeps has no place at f32; no number that has one changes. Definitions only.
 use mathlib.Core.List.{List, map}
 use Rattle.root.specs.declared.Root.{Root}
 use Rattle.root.specs.declared.Root.the-variants.{Value, Refused}

@@ -1,12 +1,10 @@
--- A step of an f32 filter, its runs and what they tell, calls struck out, and the filters that the demands speak of: as specs/Runs.antt and specs/Sound.antt of `demands` have them, with this step in place of that one. Definitions only.
--- Calls are those of the f64 filter, kinds and parameters read wide; the flat close is among them, and no function at f32 runs it.
+-- A step of an f32 filter, its runs and what they tell, calls struck out, and the filters that the demands speak of: as specs/Runs.antt and specs/Sound.antt of `demands` have them, with this step in place of that one, and the calls of the f32 filter (Calls.antt) in place of those. Definitions only.
 use Prim.Native.Nat.{ℕ}
 use mathlib.Core.Path.{_≡_}
 use mathlib.Core.Bool.{true, false}
 use mathlib.Core.List.{List, [], _∷_, _++_}
 use lib.Ieee.{Float, binary32}
 use Rattle.filter.specs.Filters.{isShut}
-use Rattle.filter.specs.Calls.{Call, abandon}
 use Rattle.filter.specs.Steps.{Reply, step}
 use Rattle.filter.specs.New.{newAnswer}
 use Rattle.filter32.specs.declared.Filter.{Filter}
@@ -15,6 +13,7 @@ use Rattle.sigma32.specs.declared.Params.{Params}
 use Rattle.sigma32.specs.Wide.{wideParams}
 use Rattle.filter32.specs.Wide.{wideTrack, wideFilter}
 use Rattle.demands.specs.Runs.{Told, AlikeTracks}
+use Rattle.demands32.specs.Calls.{Call, abandon, wideCall}
 use Rattle.demands32.specs.Narrow.{narrowFilter}
 
 pub record Stepped : Type 0 where
@@ -23,7 +22,7 @@ pub record Stepped : Type 0 where
 
 -- what the contract of a call says of the filter read wide, read back: the step of `filter` at binary32
 abbrev pub stepNarrow : Filter → Call → Stepped
-stepNarrow s c = let t = step binary32 (wideFilter s) c in record { filter = narrowFilter (t .filter); reply = t .reply }
+stepNarrow s c = let t = step binary32 (wideFilter s) (wideCall c) in record { filter = narrowFilter (t .filter); reply = t .reply }
 
 -- and of New
 abbrev pub newNarrow : ℕ → List Float → List Float → List Float → Params → Answer

@@ -19,7 +19,7 @@ use Rattle.sigma.specs.Predict.{Moment, predictPlan, nothingMade, moments}
 use Rattle.sigma.specs.declared.Moments.{Moments}
 use Rattle.correction.specs.Correct.{applyPlan}
 use Rattle.filter.specs.declared.Stage.{Stage}
-use Rattle.filter.specs.declared.Stage.the-variants.{Shut, Predicting, Correcting}
+use Rattle.filter.specs.declared.Stage.the-variants.{Shut, Predicting, Correcting, PredictingStepped, CorrectingStepped}
 use Rattle.filter.specs.declared.Filter.{Filter}
 use Rattle.filter.specs.declared.Answer.{Answer}
 use Rattle.filter.specs.Filters.{isShut, isPredicting, isCorrecting, seen, closedWith}
@@ -33,11 +33,15 @@ pub predicting-open : (t : Stage) → isPredicting t ≡ true → isShut t ≡ f
 predicting-open Shut h = absurd (false≢true h)
 predicting-open Predicting h = refl
 predicting-open Correcting h = refl
+predicting-open PredictingStepped h = refl
+predicting-open CorrectingStepped h = refl
 
 pub correcting-open : (t : Stage) → isCorrecting t ≡ true → isShut t ≡ false
 correcting-open Shut h = absurd (false≢true h)
 correcting-open Predicting h = refl
 correcting-open Correcting h = refl
+correcting-open PredictingStepped h = refl
+correcting-open CorrectingStepped h = refl
 
 module _ (f : Format) (s : Filter) where
   -- the propagated points of a lent slice, and the plan of their close

@@ -42,17 +42,21 @@ one-fails true true true false (accepted t) false a₇ o h = (KIND, refl, refl)
 one-fails true true true false (accepted t) true false o h = (PARAM, refl, refl)
 one-fails true true true false (accepted t) true true o h = absurd (h refl)
 
--- what is made of two outcomes is alike where both are accepted and where both are refused
-pub alike : {A B C : Type 0} (g : Outcome A → C) (h : Outcome B → C) (x : A) (y : B) → g (accepted x) ≡ h (accepted y) → ((r : Refusal) → g (refused r) ≡ h (refused r)) → (a₁ a₂ a₃ a₄ : Bool) (a₅ : Outcome Bool) (a₆ a₇ : Bool) → g (inOrder a₁ a₂ a₃ a₄ a₅ a₆ a₇ (accepted x)) ≡ h (inOrder a₁ a₂ a₃ a₄ a₅ a₆ a₇ (accepted y))
+-- what is made of two outcomes, once every test has passed and where one refuses, is alike if it is in both cases
+pub through : {A B C : Type 0} (g : Outcome A → C) (h : Outcome B → C) (o : Outcome A) (p : Outcome B) → g o ≡ h p → ((r : Refusal) → g (refused r) ≡ h (refused r)) → (a₁ a₂ a₃ a₄ : Bool) (a₅ : Outcome Bool) (a₆ a₇ : Bool) → g (inOrder a₁ a₂ a₃ a₄ a₅ a₆ a₇ o) ≡ h (inOrder a₁ a₂ a₃ a₄ a₅ a₆ a₇ p)
 unfolding inOrder
-alike g h x y e d false a₂ a₃ a₄ a₅ a₆ a₇ = d STAGE
-alike g h x y e d true false a₃ a₄ a₅ a₆ a₇ = d SIZE
-alike g h x y e d true true false a₄ a₅ a₆ a₇ = d SHORT
-alike g h x y e d true true true true a₅ a₆ a₇ = d STALE
-alike g h x y e d true true true false (refused r) a₆ a₇ = d r
-alike g h x y e d true true true false (accepted t) false a₇ = d KIND
-alike g h x y e d true true true false (accepted t) true false = d PARAM
-alike g h x y e d true true true false (accepted t) true true = e
+through g h o p e d false a₂ a₃ a₄ a₅ a₆ a₇ = d STAGE
+through g h o p e d true false a₃ a₄ a₅ a₆ a₇ = d SIZE
+through g h o p e d true true false a₄ a₅ a₆ a₇ = d SHORT
+through g h o p e d true true true true a₅ a₆ a₇ = d STALE
+through g h o p e d true true true false (refused r) a₆ a₇ = d r
+through g h o p e d true true true false (accepted t) false a₇ = d KIND
+through g h o p e d true true true false (accepted t) true false = d PARAM
+through g h o p e d true true true false (accepted t) true true = e
+
+-- so where both are accepted
+pub alike : {A B C : Type 0} (g : Outcome A → C) (h : Outcome B → C) (x : A) (y : B) → g (accepted x) ≡ h (accepted y) → ((r : Refusal) → g (refused r) ≡ h (refused r)) → (a₁ a₂ a₃ a₄ : Bool) (a₅ : Outcome Bool) (a₆ a₇ : Bool) → g (inOrder a₁ a₂ a₃ a₄ a₅ a₆ a₇ (accepted x)) ≡ h (inOrder a₁ a₂ a₃ a₄ a₅ a₆ a₇ (accepted y))
+alike g h x y = through g h (accepted x) (accepted y)
 
 -- what comes before the search, what the search has found and what comes after it, one after the other
 in-turn : (a₁ a₂ a₃ a₄ : Bool) (o : Outcome Bool) (a₆ a₇ : Bool) → earlier (refusal (inOrder a₁ a₂ a₃ a₄ nothing true true nothing)) (earlier (refusal o) (refusal (inOrder true true true false nothing a₆ a₇ nothing))) ≡ refusal (inOrder a₁ a₂ a₃ a₄ o a₆ a₇ nothing)
@@ -120,9 +124,12 @@ module _ (f : Format) (a : Asks) where
   unfolding firstRefusal
   none-told e = ap refusal (goes-on nothing e)
 
-  pub both-ways : {A B C : Type 0} (g : Outcome A → C) (h : Outcome B → C) (x : A) (y : B) → g (accepted x) ≡ h (accepted y) → ((r : Refusal) → g (refused r) ≡ h (refused r)) → g (guarded f a (accepted x)) ≡ h (guarded f a (accepted y))
+  pub guarded-through : {A B C : Type 0} (g : Outcome A → C) (h : Outcome B → C) (o : Outcome A) (p : Outcome B) → g o ≡ h p → ((r : Refusal) → g (refused r) ≡ h (refused r)) → g (guarded f a o) ≡ h (guarded f a p)
   unfolding guarded
-  both-ways g h x y e d = alike g h x y e d (a .fits) (every within (a .sizes)) (every long (a .lent)) (a .stale) (searched (a .inputs)) (every isPlain (a .plain)) (every (fit f) (a .params))
+  guarded-through g h o p e d = through g h o p e d (a .fits) (every within (a .sizes)) (every long (a .lent)) (a .stale) (searched (a .inputs)) (every isPlain (a .plain)) (every (fit f) (a .params))
+
+  pub both-ways : {A B C : Type 0} (g : Outcome A → C) (h : Outcome B → C) (x : A) (y : B) → g (accepted x) ≡ h (accepted y) → ((r : Refusal) → g (refused r) ≡ h (refused r)) → g (guarded f a (accepted x)) ≡ h (guarded f a (accepted y))
+  both-ways g h x y e d = guarded-through g h (accepted x) (accepted y) e d
 
   pub number-given : {A : Type 0} (x : A) → refusal (guarded f a (accepted x)) ≡ firstRefusal f a
   unfolding firstRefusal

@@ -21,7 +21,7 @@ use Rattle.filter.specs.declared.Answer.{Answer}
 use Rattle.filter.specs.declared.new.NewSheet.{NewSheet}
 use Rattle.filter.specs.declared.new.NewTrack.{NewTrack}
 use Rattle.filter.specs.Asked.{Lent, by-params, Asks, guarded}
-use Rattle.filter.specs.Filters.{sheet, track, filter}
+use Rattle.filter.specs.Filters.{sheet, track, filter, nothingKept}
 use Rattle.filter.specs.Calls.{lend, valuesOf, line}
 
 -- all kinds plain
@@ -30,7 +30,7 @@ freshSheet n q params = sheet n q params (replicate 8 plain)
 
 -- stale, nothing open; points, weights and scratch at +0
 abbrev pub freshTrack : List Float → List Float → Track
-freshTrack x p = track x p (zeros 17) (zeros 136) true Shut (zeros 17) (zeros 136)
+freshTrack x p = track x p (zeros 17) (zeros 136) true Shut (zeros 17) (zeros 136) nothingKept
 
 -- n = 0, every number +0, stale, nothing open
 abbrev pub emptySheet : Sheet

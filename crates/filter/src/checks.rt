@@ -66,9 +66,12 @@ pub fn is_shut(s: Stage) -> bool
         Stage::Shut => true,
         Stage::Predicting => false,
         Stage::Correcting => false,
+        Stage::PredictingStepped => false,
+        Stage::CorrectingStepped => false,
     }
 }
 
+// Of the whole-list way.
 pub fn is_predicting(s: Stage) -> bool
     ensures { λ r. ⌜ r ≡ isPredicting s ⌝ }
 {
@@ -76,6 +79,8 @@ pub fn is_predicting(s: Stage) -> bool
         Stage::Shut => false,
         Stage::Predicting => true,
         Stage::Correcting => false,
+        Stage::PredictingStepped => false,
+        Stage::CorrectingStepped => false,
     }
 }
 
@@ -86,6 +91,8 @@ pub fn is_correcting(s: Stage) -> bool
         Stage::Shut => false,
         Stage::Predicting => false,
         Stage::Correcting => true,
+        Stage::PredictingStepped => false,
+        Stage::CorrectingStepped => false,
     }
 }
 

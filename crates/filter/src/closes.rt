@@ -8,6 +8,7 @@ use crate::Filter;
 use crate::Stage;
 use crate::Track;
 use crate::checks;
+use crate::drawn;
 use crate::fronts;
 use crate::measurement;
 use crate::tests;
@@ -34,6 +35,7 @@ impl Filter {
         let x = made.x;
         let p = made.p;
         let weights = self.track.drawn_weights;
+        let kept = drawn::nothing_kept();
         let track = Track {
             x,
             p,
@@ -43,6 +45,7 @@ impl Filter {
             stage: Stage::Shut,
             drawn_weights: [0.0; 17],
             drawn_points: [0.0; 136],
+            kept,
         };
         Answer {
             filter: Filter { sheet, track },

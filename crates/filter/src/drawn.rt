@@ -1,11 +1,24 @@
 // What an open call has drawn, beside the track as it was.
 ghost use mathlib.Core.Path.{_≡_};
-ghost use Rattle.filter.specs.Filters.{withDrawn, shut};
+ghost use Rattle.filter.specs.Filters.{nothingKept, withDrawn, shut};
+use crate::Kept;
 use crate::Stage;
 use crate::Track;
 use crate::Weighted;
 
-// At a stage, with what has been drawn.
+// No image is in.
+pub fn nothing_kept() -> Kept
+    ensures { λ r. ⌜ r ≡ nothingKept ⌝ }
+{
+    Kept {
+        at: 0,
+        asked: false,
+        m: 0,
+        images: [0.0; 136],
+    }
+}
+
+// At a stage, with what has been drawn; nothing is kept yet.
 pub fn with_drawn(t: Track, stage: Stage, d: Weighted) -> Track
     ensures { λ r. ⌜ r ≡ withDrawn t stage d ⌝ }
 {
@@ -15,6 +28,7 @@ pub fn with_drawn(t: Track, stage: Stage, d: Weighted) -> Track
     let points = t.points;
     let drawn_weights = d.weights;
     let drawn_points = d.points;
+    let kept = nothing_kept();
     Track {
         x,
         p,
@@ -24,10 +38,11 @@ pub fn with_drawn(t: Track, stage: Stage, d: Weighted) -> Track
         stage,
         drawn_weights,
         drawn_points,
+        kept,
     }
 }
 
-// Nothing open, and scratch at +0.
+// Nothing open, scratch at +0.
 pub fn shut(t: Track) -> Track
     ensures { λ r. ⌜ r ≡ shut t ⌝ }
 {

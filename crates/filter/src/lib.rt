@@ -15,11 +15,13 @@ pub mod readings;
 pub mod setters;
 mod tests;
 
-// What is open.
+// What is open, and which way: with the whole point list, or one point at a time.
 pub enum Stage {
     Shut,
     Predicting,
     Correcting,
+    PredictingStepped,
+    CorrectingStepped,
 }
 
 // The points of a filter with their weights.
@@ -36,7 +38,15 @@ pub struct Sheet {
     pub kinds: [Kind; 8],
 }
 
-// The rest of a filter: its state and covariance, current points and weights, what is open and what that has drawn. Unused places hold +0; while nothing is open, so do the places of what an open call has drawn.
+// What a stepped call keeps, up to 2n+1 images of n numbers or of m: how many images are in, whether the point after them has been asked for, the m that a correction's first image has named (0 before, and in a prediction), and the images, one after the other.
+pub struct Kept {
+    pub at: usize,
+    pub asked: bool,
+    pub m: usize,
+    pub images: [f64; 136],
+}
+
+// The rest of a filter: its state and covariance, current points and weights, what is open, what that has drawn and what it keeps. Unused places hold +0; while nothing is open, so does scratch, what an open call has drawn and keeps.
 pub struct Track {
     pub x: [f64; 8],
     pub p: [f64; 64],
@@ -46,6 +56,7 @@ pub struct Track {
     pub stage: Stage,
     pub drawn_weights: [f64; 17],
     pub drawn_points: [f64; 136],
+    pub kept: Kept,
 }
 
 // A filter: a track on a sheet.

@@ -8,6 +8,7 @@ use crate::Sheet;
 use crate::Stage;
 use crate::Track;
 use crate::checks;
+use crate::drawn;
 use crate::fronts;
 use crate::tests;
 use angles::Kind;
@@ -43,10 +44,11 @@ fn fresh_sheet(n: usize, q: [f64; 64], params: Params) -> Sheet
     }
 }
 
-// Stale, nothing open; points, weights and what an open call has drawn at +0.
+// Stale, nothing open; points, weights and scratch at +0.
 fn fresh_track(x: [f64; 8], p: [f64; 64]) -> Track
     ensures { λ r. ⌜ r ≡ freshTrack x p ⌝ }
 {
+    let kept = drawn::nothing_kept();
     Track {
         x,
         p,
@@ -56,6 +58,7 @@ fn fresh_track(x: [f64; 8], p: [f64; 64]) -> Track
         stage: Stage::Shut,
         drawn_weights: [0.0; 17],
         drawn_points: [0.0; 136],
+        kept,
     }
 }
 

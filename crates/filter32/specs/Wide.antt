@@ -8,7 +8,7 @@ use Rattle.filter.specs.declared.ParamsRead.{ParamsRead}
 use Rattle.filter.specs.declared.measurement.Intake.{Intake}
 use Rattle.filter.specs.declared.new.NewSheet.{NewSheet}
 use Rattle.filter.specs.declared.new.NewTrack.{NewTrack}
-use Rattle.filter.specs.Filters.{sheet, track, filter}
+use Rattle.filter.specs.Filters.{sheet, track, filter, nothingKept}
 use Rattle.filter32.specs.declared.Sheet.{Sheet as Sheet32}
 use Rattle.filter32.specs.declared.Track.{Track as Track32}
 use Rattle.filter32.specs.declared.Filter.{Filter as Filter32}
@@ -24,8 +24,9 @@ use Rattle.sigma32.specs.Wide.{wideParams}
 abbrev pub wideSheet : Sheet32 → Sheet
 wideSheet s = sheet (s .n) (s .q) (wideParams (s .params)) (wideKinds (s .kinds))
 
+-- there is no stepped call at f32, so nothing is ever kept
 abbrev pub wideTrack : Track32 → Track
-wideTrack t = track (t .x) (t .p) (t .weights) (t .points) (t .stale) (t .stage) (t .«drawn_weights») (t .«drawn_points»)
+wideTrack t = track (t .x) (t .p) (t .weights) (t .points) (t .stale) (t .stage) (t .«drawn_weights») (t .«drawn_points») nothingKept
 
 abbrev pub wideFilter : Filter32 → Filter
 wideFilter s = filter (wideSheet (s .sheet)) (wideTrack (s .track))

@@ -28,7 +28,7 @@ pub fn with_drawn(t: Track, stage: Stage, d: Weighted) -> Track
     }
 }
 
-// Nothing open, and scratch at +0.
+// Nothing open, scratch at +0.
 pub fn shut(t: Track) -> Track
     ensures { λ r. ⌜ wideTrack r ≡ shut (wideTrack t) ⌝ }
 {

@@ -29,7 +29,7 @@ pub struct Sheet {
     pub kinds: [Kind; 8],
 }
 
-// The rest of a filter: its state and covariance, current points and weights, what is open and what that has drawn. Unused places hold +0; while nothing is open, so do the places of what an open call has drawn.
+// The rest of a filter: its state and covariance, current points and weights, what is open and what that has drawn. Unused places hold +0; while nothing is open, so does scratch, what an open call has drawn.
 pub struct Track {
     pub x: [f32; 8],
     pub p: [f32; 64],

@@ -45,7 +45,7 @@ fn fresh_sheet(n: usize, q: [f32; 64], params: Params) -> Sheet
     }
 }
 
-// Stale, nothing open; points, weights and what an open call has drawn at +0.
+// Stale, nothing open; points, weights and scratch at +0.
 fn fresh_track(x: [f32; 8], p: [f32; 64]) -> Track
     ensures { λ r. ⌜ wideTrack r ≡ freshTrack x p ⌝ }
 {

@@ -1,13 +1,13 @@
-// Open prediction and open correction, and abandon: what an open call has drawn is kept beside the filter as it was. At f32, made from crates/filter by ./narrow.py: edit there.
+// Open prediction and open correction, and abandon: what an open call has drawn lies beside the filter as it was. At f32, made from crates/filter by ./narrow.py: edit there.
 ghost use mathlib.Core.Path.{_≡_};
-ghost use mathlib.Core.Bool.{false};
+ghost use mathlib.Core.Bool.{true};
 ghost use Prim.Native.Nat.{_≤_};
 ghost use lib.ListN.{length, take};
 ghost use lib.Ieee.{binary32};
 ghost use Rattle.floats.specs.Refusal.{taken};
 ghost use Rattle.floats.specs.Fronts.{over};
 ghost use Rattle.sigma.specs.Draw.{pointNumbers};
-ghost use Rattle.filter.specs.Filters.{filter, isShut, withDrawn};
+ghost use Rattle.filter.specs.Filters.{filter, isWhole, withDrawn};
 ghost use Rattle.filter.specs.Calls.{setting, open-prediction, open-correction, opening, abandon};
 ghost use Rattle.filter.specs.Steps.{step, answered};
 ghost use Rattle.filter32.specs.Wide.{wideAnswer, wideFilter, wideWeighted};
@@ -43,7 +43,7 @@ impl Filter {
 
     // An open call by the stage that it leads to. A correction that isn't stale has the current weights and points; else they are drawn afresh.
     fn open(self, stage: Stage, out: &mut [f32]) -> Answer
-        requires { ⌜ isShut stage ≡ false ⌝ }
+        requires { ⌜ isWhole stage ≡ true ⌝ }
         ensures { λ r. ⌜ wideAnswer r ≡ answered (step binary32 (wideFilter self) (opening stage (now (out .entry)))) ⌝ }
         ensures { λ r. ⌜ now (out .exit) ≡ over (step binary32 (wideFilter self) (opening stage (now (out .entry))) .reply .given) (now (out .entry)) ⌝ }
     {

@@ -10,7 +10,7 @@ use Rattle.filter.specs.declared.Answer.{Answer}
 use Rattle.matrix.specs.Results.{run}
 use Rattle.filter.specs.Asked.{Asks, guarded}
 use Rattle.filter.specs.Filters.{filter, isShut, seen, Change, sheetAfter, trackAfter}
-use Rattle.filter.specs.Calls.{Call, writing, setting, closing, abandon, reading, fits, needs, asking, Done, plan}
+use Rattle.filter.specs.Calls.{Call, writing, setting, stepping, closing, closing-stepped, abandon, reading, fits, needs, asking, Done, plan}
 use Rattle.filter.specs.Steps.{Reply, stepped}
 use Rattle.pairs.specs.declared.Pair.{Pair}
 use Rattle.pairs.specs.declared.Side.{Side}
@@ -33,7 +33,9 @@ solo p w = filter (p .sheet) (trackAt p w)
 abbrev pub onSheet : Call → Bool
 onSheet (writing c) = true
 onSheet (setting c) = false
+onSheet (stepping c) = false
 onSheet (closing c) = false
+onSheet (closing-stepped c) = false
 onSheet abandon = false
 onSheet (reading c) = false
 
@@ -42,7 +44,7 @@ abbrev pub neitherOpen : Pair → Bool
 neitherOpen p = isShut (p .first .stage) && isShut (p .second .stage)
 
 abbrev pub pairFits : Pair → Side → Call → Bool
-pairFits p w c = cond (onSheet c) (neitherOpen p) (fits c (trackAt p w .stage))
+pairFits p w c = cond (onSheet c) (neitherOpen p) (fits c (seen (solo p w)))
 
 -- what is asked: that, and the rest as of the side's filter
 abbrev pub pairAsks : Pair → Side → Call → Asks

@@ -9,6 +9,7 @@ pub mod opens;
 pub mod readings;
 pub mod setters;
 mod sides;
+pub mod steps;
 
 // One sheet and two tracks. A track with the sheet is a filter, and a call on a side is that filter's own call; but a change of the sheet is taken only while neither side has a call open, and reaches both.
 pub struct Pair {

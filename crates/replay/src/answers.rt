@@ -6,6 +6,7 @@ use crate::held::Held;
 use angles::Kind;
 use angles::Residual;
 use filter::Filter;
+use filter::Kept;
 use filter::checks;
 use floats::Verdict;
 use sigma::Params;
@@ -55,7 +56,7 @@ pub fn buffer(a: Done, lent: &[f64], out: &mut [u8], used: usize) -> Turn
     }
 }
 
-// A label, and the numbers of an array of a filter: its states, a matrix, the first two weights, the points.
+// A label, and the numbers of an array of a filter: its states, a matrix, the first two weights, the first k of a point list.
 fn put_states(out: &mut [u8], used: usize, label: &[u8], x: &[f64; 8], n: usize) -> usize {
     let at = script::put(out, used, label);
     script::put_numbers(out, at, x, n)
@@ -71,9 +72,9 @@ fn put_weights(out: &mut [u8], used: usize, label: &[u8], weights: &[f64; 17]) -
     script::put_numbers(out, at, weights, 2)
 }
 
-fn put_points(out: &mut [u8], used: usize, label: &[u8], points: &[f64; 136], n: usize) -> usize {
+fn put_points(out: &mut [u8], used: usize, label: &[u8], points: &[f64; 136], k: usize) -> usize {
     let at = script::put(out, used, label);
-    script::put_numbers(out, at, points, checks::point_numbers(n, n))
+    script::put_numbers(out, at, points, k)
 }
 
 // A close: number and place, and where accepted x and P.
@@ -205,7 +206,7 @@ fn put_current(out: &mut [u8], used: usize, filter: Filter) -> usize {
     let weights = filter.track.weights;
     let points = filter.track.points;
     let at = put_weights(out, used, b" w", &weights);
-    let at = put_points(out, at, b" pts", &points, n);
+    let at = put_points(out, at, b" pts", &points, checks::point_numbers(n, n));
     let at = script::put(out, at, b" stale");
     script::put_bit(out, at, filter.track.stale)
 }
@@ -219,7 +220,37 @@ fn put_drawn(out: &mut [u8], used: usize, filter: Filter) -> usize {
     let points = track.drawn_points;
     let at = script::put_stage(out, used, stage);
     let at = put_weights(out, at, b" dw", &weights);
-    put_points(out, at, b" dpts", &points, n)
+    put_points(out, at, b" dpts", &points, checks::point_numbers(n, n))
+}
+
+// How many numbers the images so far have: n each, or in a correction the m that the first has named.
+fn image_numbers(n: usize, kept: Kept) -> usize {
+    if kept.m == 0 {
+        return script::times(kept.at, n);
+    }
+    script::times(kept.at, kept.m)
+}
+
+// How far a stepped call is, whether the point that is due has been asked for, and its m.
+fn put_progress(out: &mut [u8], used: usize, kept: Kept) -> usize {
+    let at = script::put(out, used, b" at ");
+    let at = script::put_decimal(out, at, kept.at as u64);
+    let at = script::put(out, at, b" asked");
+    let at = script::put_bit(out, at, kept.asked);
+    let at = script::put(out, at, b" m ");
+    script::put_decimal(out, at, kept.m as u64)
+}
+
+// Of a filter: which way a call is open, and what a stepped one keeps.
+fn put_kept(out: &mut [u8], used: usize, filter: Filter) -> usize {
+    let n = filter.sheet.n;
+    let track = filter.track;
+    let stage = track.stage;
+    let kept = track.kept;
+    let images = kept.images;
+    let at = script::put_way(out, used, stage);
+    let at = put_progress(out, at, kept);
+    put_points(out, at, b" img", &images, image_numbers(n, kept))
 }
 
 // All of a filter, the used places only.
@@ -231,6 +262,7 @@ pub fn dump(held: Held, out: &mut [u8], used: usize) -> Turn
     let at = put_settings(out, at, filter);
     let at = put_current(out, at, filter);
     let at = put_drawn(out, at, filter);
+    let at = put_kept(out, at, filter);
     Turn {
         held,
         used: script::put(out, at, b"\n"),

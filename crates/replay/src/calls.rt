@@ -107,7 +107,7 @@ fn new_pair(held: Held, s: &[u8], at: usize, out: &mut [u8], used: usize) -> Tur
     answers::number(made, out, used)
 }
 
-// setx LIST, setp LIST, setq LIST
+// setx LIST, setp LIST, setq LIST, imagep LIST
 fn set(name: Name, held: Held, s: &[u8], at: usize, out: &mut [u8], used: usize) -> Turn {
     let mut list = [0.0f64; 512];
     let ListRead::Numbers { len, next } = script::list_at(s, at, &mut list) else {
@@ -117,6 +117,23 @@ fn set(name: Name, held: Held, s: &[u8], at: usize, out: &mut [u8], used: usize)
         return answers::bad(held, out, used);
     }
     let done = held::with_list(name, held, script::front(&list, len));
+    answers::number(done, out, used)
+}
+
+// imagec m LIST
+fn image_correction(held: Held, s: &[u8], at: usize, out: &mut [u8], used: usize) -> Turn {
+    let mut list = [0.0f64; 512];
+    let SizeRead::Size { value: m, next } = script::size_at(s, at) else {
+        return answers::bad(held, out, used);
+    };
+    let ListRead::Numbers { len, next } = script::list_at(s, next, &mut list) else {
+        return answers::bad(held, out, used);
+    };
+    if !script::no_token(s, next) {
+        return answers::bad(held, out, used);
+    }
+    let list = script::front(&list, len);
+    let done = held::image_correction(held, m as usize, list);
     answers::number(done, out, used)
 }
 
@@ -160,7 +177,7 @@ fn set_kind(held: Held, s: &[u8], at: usize, out: &mut [u8], used: usize) -> Tur
     answers::number(done, out, used)
 }
 
-// openp BUF, openc BUF, readx BUF, readp BUF, readq BUF, readpts BUF
+// openp BUF, openc BUF, readx BUF, readp BUF, readq BUF, readpts BUF, ask BUF
 fn lend(name: Name, held: Held, s: &[u8], at: usize, out: &mut [u8], used: usize) -> Turn {
     let SizeRead::Size { value, next } = script::size_at(s, at) else {
         return answers::bad(held, out, used);
@@ -215,15 +232,23 @@ fn kinds_at(s: &[u8], at: usize) -> FourKinds {
     }
 }
 
-// The kinds of a close: a `closef` has none.
+// The kinds of a close: a flat one has none.
 fn kinds_of(name: Name, s: &[u8], at: usize) -> FourKinds {
     match name {
-        Name::CloseCorrection => kinds_at(s, at),
+        Name::CloseCorrection | Name::CloseCorrectionStepped => kinds_at(s, at),
         _ => four_plain(true, at),
     }
 }
 
-// closec m LIST(z) LIST(R) KIND KIND KIND KIND LIST(observed), closef m LIST(z) LIST(R) LIST(observed)
+// The observed points of a close: a stepped one has none.
+fn observed_of(name: Name, s: &[u8], at: usize, list: &mut [f64; 512]) -> ListRead {
+    match name {
+        Name::CloseCorrection | Name::CloseCorrectionFlat => script::list_at(s, at, list),
+        _ => ListRead::Numbers { len: 0, next: at },
+    }
+}
+
+// closec m LIST(z) LIST(R) KIND KIND KIND KIND LIST(observed), closef m LIST(z) LIST(R) LIST(observed), and sclosec, sclosef without the observed points
 fn close_correction(
     name: Name,
     held: Held,
@@ -248,7 +273,7 @@ fn close_correction(
     if !four.found {
         return answers::bad(held, out, used);
     }
-    let ListRead::Numbers { len, next } = script::list_at(s, four.next, &mut observed) else {
+    let ListRead::Numbers { len, next } = observed_of(name, s, four.next, &mut observed) else {
         return answers::bad(held, out, used);
     };
     if !script::no_token(s, next) {
@@ -327,7 +352,7 @@ fn root(held: Held, s: &[u8], at: usize, out: &mut [u8], used: usize) -> Turn {
     Turn { held, used }
 }
 
-// abandon, readpar, readstale, dump: nothing follows the name.
+// abandon, readpar, readstale, dump, sopenp, sopenc, sclosep: nothing follows the name.
 fn alone(name: Name, held: Held, s: &[u8], at: usize, out: &mut [u8], used: usize) -> Turn {
     if !script::no_token(s, at) {
         return answers::bad(held, out, used);
@@ -336,7 +361,26 @@ fn alone(name: Name, held: Held, s: &[u8], at: usize, out: &mut [u8], used: usiz
         Name::Abandon => answers::number(held::abandon(held), out, used),
         Name::ReadParams => answers::params(held, out, used),
         Name::ReadStale => answers::stale(held, out, used),
+        Name::OpenPredictionStepped | Name::OpenCorrectionStepped => {
+            answers::number(held::with_nothing(name, held), out, used)
+        }
+        Name::ClosePredictionStepped => answers::close(held::with_nothing(name, held), out, used),
         _ => answers::dump(held, out, used),
+    }
+}
+
+// A stepped call on the filter or on a side: its line is read with those of its form.
+fn stepped(name: Name, held: Held, s: &[u8], at: usize, out: &mut [u8], used: usize) -> Turn {
+    match name {
+        Name::OpenPredictionStepped | Name::OpenCorrectionStepped | Name::ClosePredictionStepped =>
+            alone(name, held, s, at, out, used),
+        Name::Ask => lend(name, held, s, at, out, used),
+        Name::ImagePrediction => set(name, held, s, at, out, used),
+        Name::ImageCorrection => image_correction(held, s, at, out, used),
+        Name::CloseCorrectionStepped | Name::CloseCorrectionFlatStepped => {
+            close_correction(name, held, s, at, out, used)
+        }
+        _ => answers::bad(held, out, used),
     }
 }
 
@@ -359,7 +403,7 @@ fn call(name: Name, held: Held, s: &[u8], at: usize, out: &mut [u8], used: usize
         Name::Abandon | Name::ReadParams | Name::ReadStale | Name::Dump => {
             alone(name, held, s, at, out, used)
         }
-        _ => answers::bad(held, out, used),
+        _ => stepped(name, held, s, at, out, used),
     }
 }
 

@@ -113,6 +113,7 @@ fn side_list(name: Name, held: Held, side: Side, list: &[f64]) -> Done {
         Name::SetX => paired(held, pair.set_x(side, list)),
         Name::SetP => paired(held, pair.set_p(side, list)),
         Name::SetQ => paired(held, pair.set_q(list)),
+        Name::ImagePrediction => paired(held, pair.image_prediction(side, list)),
         _ => paired(held, pair.close_prediction(side, list)),
     }
 }
@@ -132,6 +133,7 @@ fn side_buffer(name: Name, held: Held, side: Side, buffer: &mut [f64]) -> Done {
     match name {
         Name::OpenPrediction => paired(held, pair.open_prediction(side, buffer)),
         Name::OpenCorrection => paired(held, pair.open_correction(side, buffer)),
+        Name::Ask => paired(held, pair.ask(side, buffer)),
         Name::ReadX => read(held, pair.read_x(side, buffer)),
         Name::ReadP => read(held, pair.read_p(side, buffer)),
         Name::ReadQ => read(held, pair.read_q(side, buffer)),
@@ -148,7 +150,7 @@ pub fn with_buffer(name: Name, held: Held, buffer: &mut [f64]) -> Done {
     }
 }
 
-// The closes of a correction.
+// The closes of a correction; a stepped one has no observed points.
 fn alone_close(
     name: Name,
     held: Held,
@@ -161,6 +163,12 @@ fn alone_close(
     let filter = held.filter;
     match name {
         Name::CloseCorrection => alone(held, filter.close_correction(m, z, r, kinds, observed)),
+        Name::CloseCorrectionStepped => {
+            alone(held, stepped::close_correction(filter, m, z, r, kinds))
+        }
+        Name::CloseCorrectionFlatStepped => {
+            alone(held, stepped::close_correction_flat(filter, m, z, r))
+        }
         _ => alone(held, filter.close_correction_flat(m, z, r, observed)),
     }
 }
@@ -180,6 +188,12 @@ fn side_close(
         Name::CloseCorrection => {
             paired(held, pair.close_correction(side, m, z, r, kinds, observed))
         }
+        Name::CloseCorrectionStepped => {
+            paired(held, pair.close_correction_stepped(side, m, z, r, kinds))
+        }
+        Name::CloseCorrectionFlatStepped => {
+            paired(held, pair.close_correction_flat_stepped(side, m, z, r))
+        }
         _ => paired(held, pair.close_correction_flat(side, m, z, r, observed)),
     }
 }
@@ -197,6 +211,43 @@ pub fn with_measurement(
     match whose {
         Whose::Alone => alone_close(name, held, m, z, r, kinds, observed),
         Whose::On(side) => side_close(name, held, side, m, z, r, kinds, observed),
+    }
+}
+
+// The stepped calls that are lent nothing.
+fn alone_stepped(name: Name, held: Held) -> Done {
+    let filter = held.filter;
+    match name {
+        Name::OpenPredictionStepped => alone(held, stepped::open_prediction(filter)),
+        Name::OpenCorrectionStepped => alone(held, stepped::open_correction(filter)),
+        _ => alone(held, stepped::close_prediction(filter)),
+    }
+}
+
+fn side_stepped(name: Name, held: Held, side: Side) -> Done {
+    let pair = held.pair;
+    match name {
+        Name::OpenPredictionStepped => paired(held, pair.open_prediction_stepped(side)),
+        Name::OpenCorrectionStepped => paired(held, pair.open_correction_stepped(side)),
+        _ => paired(held, pair.close_prediction_stepped(side)),
+    }
+}
+
+pub fn with_nothing(name: Name, held: Held) -> Done {
+    let whose = held.whose;
+    match whose {
+        Whose::Alone => alone_stepped(name, held),
+        Whose::On(side) => side_stepped(name, held, side),
+    }
+}
+
+pub fn image_correction(held: Held, m: usize, image: &[f64]) -> Done {
+    let filter = held.filter;
+    let pair = held.pair;
+    let whose = held.whose;
+    match whose {
+        Whose::Alone => alone(held, stepped::image_correction(filter, m, image)),
+        Whose::On(side) => paired(held, pair.image_correction(side, m, image)),
     }
 }
 

@@ -5,12 +5,13 @@ use filter::Filter;
 use floats::Verdict;
 use script::Name;
 
-// setx, setp, setq, closep: a list.
+// setx, setp, setq, closep, imagep: a list.
 pub fn with_list(name: Name, filter: Filter, list: &[f64]) -> Answer {
     match name {
         Name::SetX => filter.set_x(list),
         Name::SetP => filter.set_p(list),
         Name::SetQ => filter.set_q(list),
+        Name::ImagePrediction => stepped::image_prediction(filter, list),
         _ => filter.close_prediction(list),
     }
 }
@@ -22,11 +23,12 @@ fn read(filter: Filter, refusal: Verdict) -> Answer
     Answer { filter, refusal }
 }
 
-// openp, openc, readx, readp, readq, readpts: a buffer.
+// openp, openc, readx, readp, readq, readpts, ask: a buffer.
 pub fn with_buffer(name: Name, filter: Filter, buffer: &mut [f64]) -> Answer {
     match name {
         Name::OpenPrediction => filter.open_prediction(buffer),
         Name::OpenCorrection => filter.open_correction(buffer),
+        Name::Ask => stepped::ask(filter, buffer),
         Name::ReadX => read(filter, filter.read_x(buffer)),
         Name::ReadP => read(filter, filter.read_p(buffer)),
         Name::ReadQ => read(filter, filter.read_q(buffer)),

@@ -53,7 +53,7 @@ pub fn buffer(a: Answer, lent: &[f32], out: &mut [u8], used: usize) -> Turn
     }
 }
 
-// A label, and the numbers of an array of a filter: its states, a matrix, the first two weights, the points.
+// A label, and the numbers of an array of a filter: its states, a matrix, the first two weights, the first k of a point list.
 fn put_states(out: &mut [u8], used: usize, label: &[u8], x: &[f32; 8], n: usize) -> usize {
     let at = script::put(out, used, label);
     script32::put_numbers(out, at, x, n)
@@ -69,9 +69,9 @@ fn put_weights(out: &mut [u8], used: usize, label: &[u8], weights: &[f32; 17]) -
     script32::put_numbers(out, at, weights, 2)
 }
 
-fn put_points(out: &mut [u8], used: usize, label: &[u8], points: &[f32; 136], n: usize) -> usize {
+fn put_points(out: &mut [u8], used: usize, label: &[u8], points: &[f32; 136], k: usize) -> usize {
     let at = script::put(out, used, label);
-    script32::put_numbers(out, at, points, checks::point_numbers(n, n))
+    script32::put_numbers(out, at, points, k)
 }
 
 // A close: number and place, and where accepted x and P.
@@ -203,7 +203,7 @@ fn put_current(out: &mut [u8], used: usize, filter: Filter) -> usize {
     let weights = filter.track.weights;
     let points = filter.track.points;
     let at = put_weights(out, used, b" w", &weights);
-    let at = put_points(out, at, b" pts", &points, n);
+    let at = put_points(out, at, b" pts", &points, checks::point_numbers(n, n));
     let at = script::put(out, at, b" stale");
     script::put_bit(out, at, filter.track.stale)
 }
@@ -217,7 +217,7 @@ fn put_drawn(out: &mut [u8], used: usize, filter: Filter) -> usize {
     let points = track.drawn_points;
     let at = script::put_stage(out, used, stage);
     let at = put_weights(out, at, b" dw", &weights);
-    put_points(out, at, b" dpts", &points, n)
+    put_points(out, at, b" dpts", &points, checks::point_numbers(n, n))
 }
 
 // All of a filter, the used places only.

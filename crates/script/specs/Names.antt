@@ -5,7 +5,7 @@ use mathlib.Core.List.{List, [], _∷_}
 use Rattle.script.specs.Text.{tokenOf, partOf, sameBytes}
 use Rattle.script.specs.declared.text.Token.{Token}
 use Rattle.script.specs.declared.names.Name.{Name}
-use Rattle.script.specs.declared.names.Name.the-variants.{New, SetX, SetP, SetQ, SetParams, SetKind, OpenPrediction, OpenCorrection, ClosePrediction, CloseCorrection, CloseCorrectionFlat, Abandon, ReadX, ReadP, ReadQ, ReadPoints, ReadParams, ReadStale, Point, Wrap, Root, Dump, NewPair, First, Second, Narrow, Unknown}
+use Rattle.script.specs.declared.names.Name.the-variants.{New, SetX, SetP, SetQ, SetParams, SetKind, OpenPrediction, OpenCorrection, ClosePrediction, CloseCorrection, CloseCorrectionFlat, Abandon, OpenPredictionStepped, OpenCorrectionStepped, Ask, ImagePrediction, ImageCorrection, ClosePredictionStepped, CloseCorrectionStepped, CloseCorrectionFlatStepped, ReadX, ReadP, ReadQ, ReadPoints, ReadParams, ReadStale, Point, Wrap, Root, Dump, NewPair, First, Second, Narrow, Unknown}
 use Rattle.script.specs.declared.names.Call.{Call}
 
 -- a name, in bytes, and its call
@@ -18,7 +18,7 @@ unfoldable pub named : List Entry → List ℕ → Name
 named [] t = Unknown
 named (e ∷ l) t = cond (sameBytes t (e .word)) (e .call) (named l t)
 
--- the table, in four parts, the last first
+-- the table, in five parts, the last first
 abbrev pub others : List Entry
 others =
     record { word = 112 ∷ 111 ∷ 105 ∷ 110 ∷ 116 ∷ []; call = Point } ∷  -- point
@@ -41,6 +41,18 @@ readings =
     record { word = 114 ∷ 101 ∷ 97 ∷ 100 ∷ 115 ∷ 116 ∷ 97 ∷ 108 ∷ 101 ∷ []; call = ReadStale } ∷  -- readstale
     others
 
+abbrev pub stepped : List Entry
+stepped =
+    record { word = 115 ∷ 111 ∷ 112 ∷ 101 ∷ 110 ∷ 112 ∷ []; call = OpenPredictionStepped } ∷  -- sopenp
+    record { word = 115 ∷ 111 ∷ 112 ∷ 101 ∷ 110 ∷ 99 ∷ []; call = OpenCorrectionStepped } ∷  -- sopenc
+    record { word = 97 ∷ 115 ∷ 107 ∷ []; call = Ask } ∷  -- ask
+    record { word = 105 ∷ 109 ∷ 97 ∷ 103 ∷ 101 ∷ 112 ∷ []; call = ImagePrediction } ∷  -- imagep
+    record { word = 105 ∷ 109 ∷ 97 ∷ 103 ∷ 101 ∷ 99 ∷ []; call = ImageCorrection } ∷  -- imagec
+    record { word = 115 ∷ 99 ∷ 108 ∷ 111 ∷ 115 ∷ 101 ∷ 112 ∷ []; call = ClosePredictionStepped } ∷  -- sclosep
+    record { word = 115 ∷ 99 ∷ 108 ∷ 111 ∷ 115 ∷ 101 ∷ 99 ∷ []; call = CloseCorrectionStepped } ∷  -- sclosec
+    record { word = 115 ∷ 99 ∷ 108 ∷ 111 ∷ 115 ∷ 101 ∷ 102 ∷ []; call = CloseCorrectionFlatStepped } ∷  -- sclosef
+    readings
+
 abbrev pub steps : List Entry
 steps =
     record { word = 111 ∷ 112 ∷ 101 ∷ 110 ∷ 112 ∷ []; call = OpenPrediction } ∷  -- openp
@@ -49,7 +61,7 @@ steps =
     record { word = 99 ∷ 108 ∷ 111 ∷ 115 ∷ 101 ∷ 99 ∷ []; call = CloseCorrection } ∷  -- closec
     record { word = 99 ∷ 108 ∷ 111 ∷ 115 ∷ 101 ∷ 102 ∷ []; call = CloseCorrectionFlat } ∷  -- closef
     record { word = 97 ∷ 98 ∷ 97 ∷ 110 ∷ 100 ∷ 111 ∷ 110 ∷ []; call = Abandon } ∷  -- abandon
-    readings
+    stepped
 
 abbrev pub settings : List Entry
 settings =

@@ -10,7 +10,7 @@ use lib.Seq.{paste}
 use Rattle.io.specs.Digits.{digits, Fewest}
 use Rattle.floats.specs.declared.Verdict.{Verdict}
 use Rattle.filter.specs.declared.Stage.{Stage}
-use Rattle.filter.specs.declared.Stage.the-variants.{Shut, Predicting, Correcting}
+use Rattle.filter.specs.declared.Stage.the-variants.{Shut, Predicting, Correcting, PredictingStepped, CorrectingStepped}
 use Rattle.words.specs.Words.{width}
 
 pub record Page : Type 0 where
@@ -46,10 +46,24 @@ abbrev pub stageSign : Stage → ℕ
 stageSign Shut = 45
 stageSign Predicting = 112
 stageSign Correcting = 99
+stageSign PredictingStepped = 112
+stageSign CorrectingStepped = 99
 
 -- a blank, the word open, a blank and the sign
 abbrev pub stageText : Stage → List ℕ
 stageText s = 32 ∷ 111 ∷ 112 ∷ 101 ∷ 110 ∷ 32 ∷ stageSign s ∷ []
+
+-- which way it was opened: by the sign - where nothing is, by the letter w with the whole list, by s for one point at a time
+abbrev pub waySign : Stage → ℕ
+waySign Shut = 45
+waySign Predicting = 119
+waySign Correcting = 119
+waySign PredictingStepped = 115
+waySign CorrectingStepped = 115
+
+-- a blank, the word way, a blank and the sign
+abbrev pub wayText : Stage → List ℕ
+wayText s = 32 ∷ 119 ∷ 97 ∷ 121 ∷ 32 ∷ waySign s ∷ []
 
 -- the hex digits of a word
 unfoldable pub wordText : Format → ℕ → List ℕ

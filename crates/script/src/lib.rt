@@ -37,3 +37,4 @@ pub use write::put_number;
 pub use write::put_numbers;
 pub use write::put_stage;
 pub use write::put_verdict;
+pub use write::put_way;

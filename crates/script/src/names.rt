@@ -1,6 +1,6 @@
 // The call that a line names: its first token, compared with the names of the calls.
 ghost use mathlib.Core.Path.{_≡_};
-ghost use Rattle.script.specs.Names.{named, settings, steps, readings, others, nameOf};
+ghost use Rattle.script.specs.Names.{named, settings, steps, stepped, readings, others, nameOf};
 use crate::text::part;
 use crate::text::same_bytes;
 use crate::text::token_at;
@@ -18,6 +18,14 @@ pub enum Name {
     CloseCorrection,
     CloseCorrectionFlat,
     Abandon,
+    OpenPredictionStepped,
+    OpenCorrectionStepped,
+    Ask,
+    ImagePrediction,
+    ImageCorrection,
+    ClosePredictionStepped,
+    CloseCorrectionStepped,
+    CloseCorrectionFlatStepped,
     ReadX,
     ReadP,
     ReadQ,
@@ -91,6 +99,37 @@ fn reading_of(token: &[u8]) -> Name
     other_of(token)
 }
 
+// The same among the stepped calls, and what is asked after them.
+fn stepped_of(token: &[u8]) -> Name
+    ensures { λ r. ⌜ r ≡ named stepped (now (token .entry)) ⌝ }
+{
+    if same_bytes(token, b"sopenp") {
+        return Name::OpenPredictionStepped;
+    }
+    if same_bytes(token, b"sopenc") {
+        return Name::OpenCorrectionStepped;
+    }
+    if same_bytes(token, b"ask") {
+        return Name::Ask;
+    }
+    if same_bytes(token, b"imagep") {
+        return Name::ImagePrediction;
+    }
+    if same_bytes(token, b"imagec") {
+        return Name::ImageCorrection;
+    }
+    if same_bytes(token, b"sclosep") {
+        return Name::ClosePredictionStepped;
+    }
+    if same_bytes(token, b"sclosec") {
+        return Name::CloseCorrectionStepped;
+    }
+    if same_bytes(token, b"sclosef") {
+        return Name::CloseCorrectionFlatStepped;
+    }
+    reading_of(token)
+}
+
 // The same among what opens and closes, and what is asked after that.
 fn step_of(token: &[u8]) -> Name
     ensures { λ r. ⌜ r ≡ named steps (now (token .entry)) ⌝ }
@@ -113,7 +152,7 @@ fn step_of(token: &[u8]) -> Name
     if same_bytes(token, b"abandon") {
         return Name::Abandon;
     }
-    reading_of(token)
+    stepped_of(token)
 }
 
 // The call that a token names.

@@ -3,7 +3,7 @@ ghost use mathlib.Core.Path.{_≡_};
 ghost use Prim.Native.Nat.{_-_};
 ghost use lib.Ieee.{binary64};
 ghost use lib.ListN.{length, take};
-ghost use Rattle.script.specs.Page.{page, putOf, Decimal, Verdicted, bitText, stageText, putNumber, putNumbers};
+ghost use Rattle.script.specs.Page.{page, putOf, Decimal, Verdicted, bitText, stageText, wayText, putNumber, putNumbers};
 use filter::Stage;
 use floats::Verdict;
 
@@ -93,6 +93,22 @@ pub fn put_stage(out: &mut [u8], at: usize, stage: Stage) -> usize
         Stage::Shut => put(out, at, b" open -"),
         Stage::Predicting => put(out, at, b" open p"),
         Stage::Correcting => put(out, at, b" open c"),
+        Stage::PredictingStepped => put(out, at, b" open p"),
+        Stage::CorrectingStepped => put(out, at, b" open c"),
+    }
+}
+
+// Which way it was opened: with the whole point list, or for one point at a time.
+pub fn put_way(out: &mut [u8], at: usize, stage: Stage) -> usize
+    ensures { λ r. ⌜ r ≡ putOf (wayText stage) (page (now (out .entry)) at) .used ⌝ }
+    ensures { λ _. ⌜ now (out .exit) ≡ putOf (wayText stage) (page (now (out .entry)) at) .bytes ⌝ }
+{
+    match stage {
+        Stage::Shut => put(out, at, b" way -"),
+        Stage::Predicting => put(out, at, b" way w"),
+        Stage::Correcting => put(out, at, b" way w"),
+        Stage::PredictingStepped => put(out, at, b" way s"),
+        Stage::CorrectingStepped => put(out, at, b" way s"),
     }
 }
 

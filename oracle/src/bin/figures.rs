@@ -6,13 +6,14 @@ use std::path::{Path, PathBuf};
 use std::process::ExitCode;
 
 use oracle::coverage::{
-    beside_partner, count, count_with, faulty_changes, has, not_met, numbers, refused_with, searches, searching, sheet_changes, with_rest,
-    ALONE, CORRECTIONS, EVERYONE, PIVOTS, STAGES, STEPS,
+    beside_partner, count, count_with, faulty_changes, has, in_stage, not_met, numbers, refused_with, searches, searching, sheet_changes,
+    staged, stages, waiting, with_kinds, with_rest, ALONE, CORRECTIONS, EVERYONE, ORDER, PIVOTS, PREDICTIONS, STEPS,
 };
 use oracle::float::Float;
 use oracle::pair::Side;
 use oracle::places::{self, AFTER_PARAM, AFTER_PLAIN, SECOND, SEVERAL, SPOTS};
 use oracle::script::{named, On, Reader, Table, BAD, IN_USE, SETTERS, SHEET, STALE};
+use oracle::stages::OPENS;
 
 const NAMES: [(u8, &str); 16] = [
     (0, "accepted"),
@@ -153,9 +154,10 @@ impl Figures {
             let refused = |points| refused_with(&self.table, &call, points);
             println!("{call:<20} {:>7}{:>9} {:>28}{:>9}", accepted(STALE), accepted(IN_USE), refused(STALE), refused(IN_USE));
         }
-        println!("\naccepted on a side, its partner with {}", STAGES.map(|open| format!("{:>17}", open.name())).concat());
+        self.print_stages();
+        println!("\naccepted on a side, its partner with {}", OPENS.map(|open| format!("{:>25}", open.name())).concat());
         for (call, counts) in beside_partner(&self.table) {
-            println!("{call:<36} {}", counts.map(|count| format!("{count:>17}")).concat());
+            println!("{call:<36} {}", counts.map(|count| format!("{count:>25}")).concat());
         }
         println!("\nsheet changes through a side                 {}", SHEET.map(|call| format!("{call:>9}")).concat());
         for side in Side::BOTH {
@@ -174,14 +176,39 @@ impl Figures {
         println!("\nnot met           {}", if holes.is_empty() { "nothing".to_string() } else { holes.join("; ") });
     }
 
+    /// How often each call was met in each stage, accepted or refused by 3; settings are left out here. Then what had to wait in stepped calls.
+    fn print_stages(&self) {
+        for on in ALONE {
+            let calls: Vec<&str> = staged(on).filter(|call| !SETTERS.contains(call)).collect();
+            let line = |name: &str, cells: Vec<String>| {
+                println!("{name:<49}{}", cells.iter().map(|cell| format!("{cell:>8}")).collect::<String>());
+            };
+            println!();
+            line(&named(on, "in each stage"), calls.iter().map(|call| call.to_string()).collect());
+            for stage in stages(on) {
+                let cell = |call: &&str| in_stage(&self.table, on, call, stage).map_or(".".into(), |count| count.to_string());
+                line(&stage.name(), calls.iter().map(cell).collect());
+            }
+        }
+        println!();
+        for (call, order) in ORDER {
+            for number in order.iter().filter(|number| **number < 4) {
+                let cell = |word: &String| format!("   {word}: {}", count_with(&self.places, call, *number, word));
+                println!("{call:<8} {number}{}", waiting(call, *number).iter().map(cell).collect::<String>());
+            }
+        }
+    }
+
     fn print_sizes(&self) {
-        println!("\naccepted closes       {}", (1..=8).map(|n| format!("{:>7}", format!("n={n}"))).collect::<String>());
+        println!("\naccepted closes              {}", (1..=8).map(|n| format!("{:>7}", format!("n={n}"))).collect::<String>());
         let line = |on: On, name: &str, call: &str, m: &str| {
             let cell = |n: usize| count_with(&self.table, &named(on, call), 0, &format!("n={n}{m}"));
-            println!("{:<22}{}", named(on, name), (1..=8).map(|n| format!("{:>7}", cell(n))).collect::<String>())
+            println!("{:<29}{}", named(on, name), (1..=8).map(|n| format!("{:>7}", cell(n))).collect::<String>())
         };
         for on in ALONE {
-            line(on, "prediction", "closep", "");
+            for (call, name) in PREDICTIONS.iter().filter(|(call, _)| has(on, call)) {
+                line(on, name, call, "");
+            }
             for (call, name) in CORRECTIONS.iter().filter(|(call, _)| has(on, call)) {
                 for m in 1..=4 {
                     line(on, &format!("{name}, m={m}"), call, &format!(" m={m}"));
@@ -213,7 +240,8 @@ impl Figures {
                 line(&format!("{name:<10} {number}"), cells);
             }
         }
-        for name in ALONE.map(|on| named(on, "closec")) {
+        let closes = ALONE.iter().flat_map(|on| CORRECTIONS.map(|(call, _)| (*on, call)));
+        for name in closes.filter(|(on, call)| has(*on, call) && with_kinds(call)).map(|(on, call)| named(on, call)) {
             for word in [AFTER_PLAIN, AFTER_PARAM] {
                 println!("{name:<10} 56 {word}: {}", count_with(&self.places, &name, 56, word));
             }

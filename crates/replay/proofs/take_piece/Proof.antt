@@ -19,8 +19,8 @@ part-take-line-end c = omega (arith, run-in Line (c .before .before .before .bef
 
 add-at : tie.Need-add-at Inv-loop μ-loop
 add-at c =
-    let b = c .before .before .before .before .before .before .before .before .before .before in
-    omega (arith, run-in Line (b .before .before .before .before .args .piece .now) (b .loop .at) (omega arith))
+    let l = c .before .before .before .before .before .before .before .before .before in
+    omega (arith, run-in Line (l .before .before .before .before .before .args .piece .now) (l .before .loop .at) (omega (arith, l .loop-test .taken)))
 
 loop-again : tie.Need-loop-again Inv-loop μ-loop
 loop-again c = (omega arith, omega arith)

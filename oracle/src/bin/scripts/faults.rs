@@ -1,7 +1,7 @@
 //! Calls that are refused on their face (1 to 4, 51 to 56, 10 and 6), lines that are no calls, and calls by pure chance.
 
 use oracle::coverage::{count, count_with, FAULTS};
-use oracle::filter::{list_length, Open};
+use oracle::filter::{list_length, Way};
 use oracle::kinds::Kind;
 use oracle::script::{before, named, On, LINE, SHEET};
 use oracle::steps::{Average, Params};
@@ -10,7 +10,7 @@ use crate::maker::{close_of, Fault, Made, Maker};
 
 impl Maker {
     /// One fault, at times more than one, so that their order shows. The call answers each by its number; the first is mostly one that it gave least often.
-    fn faults(&mut self, call: &str, numbers: &[u8]) -> Vec<bool> {
+    pub fn faults(&mut self, call: &str, numbers: &[u8]) -> Vec<bool> {
         let name = self.name_of(call);
         let met: Vec<u64> = numbers.iter().map(|number| count(&self.reader.table, &name, *number)).collect();
         let mut faults = vec![false; numbers.len()];
@@ -36,7 +36,7 @@ impl Maker {
     }
 
     /// A size that is none: 0, just above, or near 2^64 where products would overflow.
-    fn no_size(&mut self, top: u64) -> u64 {
+    pub fn no_size(&mut self, top: u64) -> u64 {
         self.random.pick(&[0, top + 1, top + 2, 1 << 32, 1 << 63, u64::MAX, u64::MAX / 2, u64::MAX - 1])
     }
 
@@ -84,11 +84,16 @@ impl Maker {
                 0..=2 => self.reading()?,
                 3..=4 => self.setter(1.0)?,
                 5 => {
-                    let (call, length) = (self.rare_call(&["openp", "openc"], &[1]), self.random.pick(&[136, 3, 0]));
-                    self.say(format!("{call} {length}"))?;
+                    let calls = if self.on == On::Narrow { &OPENS[..2] } else { &OPENS };
+                    match self.rare_call(calls, &[1]) {
+                        call @ ("openp" | "openc") => {
+                            let length = self.random.pick(&[136, 3, 0]);
+                            self.say(format!("{call} {length}"))?
+                        }
+                        call => self.say(call)?,
+                    };
                 }
-                6 => self.wrong_close()?,
-                7 => self.stray()?,
+                6..=7 => self.misfit()?,
                 _ => self.random_call()?,
             }
         }
@@ -102,6 +107,9 @@ impl Maker {
     }
 
     pub fn faulty_close_prediction(&mut self, propagated: &[f64]) -> Made<()> {
+        if self.open_way() == Way::Stepped {
+            return self.faulty_step();
+        }
         let spot = self.spot("closep", 54);
         let fault = self.random.pick(&[Fault::Short, Fault::Number(spot)]);
         let line = format!("closep {}", self.list(propagated, fault));
@@ -109,43 +117,51 @@ impl Maker {
         self.after_refusal()
     }
 
-    /// Faults in either close; on a filter with a turn the flat one has that fault besides.
+    /// Faults in either close, once all images are in where it is a stepped one; on a filter with a turn the flat one has that fault besides.
     pub fn faulty_close_correction(&mut self, z: &[f64], r: &[f64], measured: &[Kind<f64>], observed: &[f64]) -> Made<()> {
-        let average = self.average();
-        let faults = self.faults(close_of(average), faults_of(average));
-        self.faulty_close(average, &faults, z, r, measured, observed)
+        let (way, average) = (self.open_way(), self.average());
+        if way == Way::Stepped && self.hand_in(observed, z.len(), 2 * self.n() + 1)? != 0 {
+            return Ok(());
+        }
+        let faults = self.faults(close_of(way, average), faults_of(way, average));
+        self.faulty_close(way, average, &faults, z, r, measured, observed)
     }
 
     /// A close of a correction with these of its faults.
+    #[allow(clippy::too_many_arguments)]
     pub fn faulty_close(
         &mut self,
+        way: Way,
         average: Average,
-        f: &[bool],
+        faults: &[bool],
         z: &[f64],
         r: &[f64],
         measured: &[Kind<f64>],
         observed: &[f64],
     ) -> Made<()> {
-        let (m, call) = (z.len(), close_of(average));
+        let (m, call) = (z.len(), close_of(way, average));
+        // The faults of one number in the order of the lists that have them.
+        let all = faults_of(way, average).iter().zip(faults);
+        let of = |number: u8, nth: usize| all.clone().filter(|(other, _)| **other == number).nth(nth).is_some_and(|(_, has)| *has);
         let mut measured = measured.to_vec();
-        if f.get(9) == Some(&true) {
+        if of(6, 0) {
             measured[self.random.below(m)] = Kind::Turn(self.random.failing_half_turn());
         }
-        if f.get(8) == Some(&true) {
-            self.bad_half_turns(&mut measured);
+        if of(56, 0) {
+            self.bad_half_turns(call, &mut measured);
         }
-        let size = if f[0] { self.no_size(4) } else { m as u64 };
-        let fz = self.fault(call, f[1], f[7].then_some(55));
-        let fr = self.fault(call, f[2], f[5].then_some(53));
-        let fo = self.fault(call, f[3], f[6].then_some(54));
+        let size = if of(1, 0) { self.wrong_m(call) } else { m as u64 };
+        let fz = self.fault(call, of(2, 0), of(55, 0).then_some(55));
+        let fr = self.fault(call, of(2, 1), of(53, 0).then_some(53));
+        let fo = self.fault(call, of(2, 2), of(54, 0).then_some(54));
         let mut r = r.to_vec();
-        if f[4] {
+        if of(8, 0) {
             // A pivot that isn't above 0: first or last of the refusals.
             let at = self.rare_row(call, 8, m);
             r[at * m + at] = -self.width().largest();
         }
         let lists = [self.list(z, fz), self.list(&r, fr), self.list(observed, fo)];
-        let line = self.correction_line(average, size, lists, &measured);
+        let line = self.correction_line(way, average, size, lists, &measured);
         self.say(line)?;
         self.after_refusal()
     }
@@ -207,36 +223,10 @@ impl Maker {
         self.after_refusal()
     }
 
-    /// A close that doesn't fit what is open.
-    pub fn wrong_close(&mut self) -> Made<()> {
-        let list = vec![1.0; list_length(self.n().max(1))];
-        let spot = self.any_spot();
-        let fault = self.random.pick(&[Fault::None, Fault::Short, Fault::Number(spot)]);
-        let open = self.filter().open;
-        let line = if open == Open::Correction || open == Open::Nothing && self.random.chance(50) {
-            format!("closep {}", self.list(&list, fault))
-        } else {
-            let (average, m) = (self.either(), self.random.pick(&[0, 1, 1, 5, u64::MAX]));
-            let lists = [self.list(&[1.0], fault), self.list(&[1.0], Fault::None), self.list(&list, fault)];
-            self.correction_line(average, m, lists, &[])
-        };
-        self.say(line)?;
-        Ok(())
-    }
-
     /// Any close of a correction, whatever the filter.
     pub fn either(&mut self) -> Average {
         let averages = self.averages();
         self.random.pick(averages)
-    }
-
-    /// Closes and abandons with nothing open.
-    pub fn stray(&mut self) -> Made<()> {
-        if self.random.chance(40) {
-            self.say("abandon")?;
-            return Ok(());
-        }
-        self.wrong_close()
     }
 
     /// Root, wrap and point: calls on values.
@@ -311,7 +301,7 @@ impl Maker {
         }
         let numbers = self.random.vector(3, 1.0);
         let (whole, one) = (format!("setx {}", self.written(&numbers)), self.float(1.0));
-        let line: Vec<u8> = match self.random.below(27) {
+        let line: Vec<u8> = match self.random.below(33) {
             0 => whole[..whole.len() - 1].into(),
             1 => format!("{whole}0").into(),
             2 => format!("{whole} {one}").into(),
@@ -334,6 +324,12 @@ impl Maker {
             19 => b"root \xff\x00".to_vec(),
             20 => format!("point 1 0 513{}", format!(" {one}").repeat(513)).into(),
             21 => format!("new {}", "9".repeat(30)).into(),
+            25 => b"sopenp 3".to_vec(),
+            26 => b"ask".to_vec(),
+            27 => b"ask 513".to_vec(),
+            28 => b"imagec 1".to_vec(),
+            29 => b"sclosep 0".to_vec(),
+            30 => b"sclosec 1 0 0 p p p p 0".to_vec(),
             // Taken all the same: tabs, blanks around, upper case, zeros in front, a comment behind.
             22 => whole.replace(' ', "\t ").into(),
             23 => format!("  {}  # {whole}", whole.to_uppercase().replace("SETX", "setx")).into(),
@@ -370,6 +366,14 @@ impl Maker {
                 "@2 @w dump",
                 "@w openp",
                 "@w closef 1 0 0 0",
+                "@w sopenp",
+                "@w sopenc",
+                "@w ask 3",
+                "@w imagep 0",
+                "@w imagec 1 0",
+                "@w sclosep",
+                "@w sclosec 1 0 0 p p p p",
+                "@w sclosef 1 0 0",
                 "@w newpair 0 0 0 0 0 0 00000000 00000000 00000000",
                 "@w new 0 0 0 0 0000000000000000 0000000000000000 0000000000000000",
                 "@w root 4010000000000000",
@@ -406,7 +410,7 @@ impl Maker {
     /// A call by pure chance, with arguments in form.
     pub fn random_call(&mut self) -> Made<()> {
         let n = if self.random.chance(90) { self.n().max(1) } else { 1 + self.random.below(8) };
-        let line = match self.random.below(16) {
+        let line = match self.random.below(if self.on == On::Narrow { 16 } else { 21 }) {
             0 => format!("setx {}", self.any_list(n)),
             1 => format!("setp {}", self.any_list(n * n)),
             2 => format!("setq {}", self.any_list(n * n)),
@@ -423,20 +427,22 @@ impl Maker {
             7 => format!("openc {}", self.length(list_length(n))),
             8..=9 => format!("closep {}", self.any_list(list_length(n))),
             10..=12 => {
-                let (average, m) = (self.either(), 1 + self.random.below(4));
+                let (way, average, m) = (self.open_way(), self.either(), 1 + self.random.below(4));
                 let lists = [m, m * m, m * (2 * n + 1)].map(|length| self.any_list(length));
-                self.correction_line(average, m as u64, lists, &[])
+                self.correction_line(way, average, m as u64, lists, &[])
             }
             13 => "dump".into(),
             14 => return self.value(),
-            _ => return self.reading(),
+            15 => return self.reading(),
+            // One step of what is open, or an open.
+            _ => return self.any_step(n),
         };
         self.say(line)?;
         Ok(())
     }
 
     /// A list of any finite numbers, all near one size or of all sizes.
-    fn any_list(&mut self, length: usize) -> String {
+    pub fn any_list(&mut self, length: usize) -> String {
         let unit = self.unit();
         let numbers: Vec<f64> = match self.random.below(4) {
             0 => (0..length).map(|_| self.random.finite()).collect(),
@@ -466,12 +472,19 @@ impl Maker {
     }
 }
 
+const OPENS: [&str; 4] = ["openp", "openc", "sopenp", "sopenc"];
+
 /// What can be wrong in a close of a correction: m, the lengths of z, R and the points, a pivot, numbers in R, the points and z;
-/// of the weighted close a half-turn that isn't finite, and one that is no half-turn.
-pub fn faults_of(average: Average) -> &'static [u8] {
-    const ALL: [u8; 10] = [1, 2, 2, 2, 8, 53, 54, 55, 56, 6];
+/// of the weighted close a half-turn that isn't finite, and one that is no half-turn. A stepped one is lent no points.
+pub fn faults_of(way: Way, average: Average) -> &'static [u8] {
+    const WHOLE: [u8; 10] = [1, 2, 2, 2, 8, 53, 54, 55, 56, 6];
+    const STEPPED: [u8; 8] = [1, 2, 2, 8, 53, 55, 56, 6];
+    let all: &[u8] = match way {
+        Way::Whole => &WHOLE,
+        Way::Stepped => &STEPPED,
+    };
     match average {
-        Average::Weighted => &ALL,
-        Average::Flat => &ALL[..8],
+        Average::Weighted => all,
+        Average::Flat => &all[..all.len() - 2],
     }
 }

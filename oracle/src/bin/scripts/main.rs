@@ -8,6 +8,7 @@ mod overflows;
 mod pairs;
 mod rounds;
 mod searches;
+mod stepping;
 mod widths;
 
 use std::process::ExitCode;

@@ -3,12 +3,13 @@
 use std::convert::Infallible;
 use std::io::{self, BufWriter, Stdout, Write};
 
-use oracle::coverage::{count_with, holes, EVERYONE};
-use oracle::filter::{list_length, Filter, Open};
+use oracle::coverage::{count_with, has, holes, CORRECTIONS, EVERYONE};
+use oracle::filter::{list_length, Filter, Open, Way};
 use oracle::float::Float;
 use oracle::kinds::Kind;
 use oracle::pair::Side;
 use oracle::script::{named, On, Reader, BAD};
+use oracle::stages::Stage;
 use oracle::steps::{Average, Params};
 
 use crate::numbers::Random;
@@ -23,20 +24,24 @@ pub enum End {
 
 pub type Made<A> = Result<A, End>;
 
-/// What an episode is about: refused calls, steps that stop, rounds as a user has them, anything.
+/// What an episode is about: refused calls, steps that stop, rounds as a user has them, stepped calls with all that doesn't fit on the way, anything.
 #[derive(Clone, Copy)]
 enum Sort {
     Refusals,
     Steps,
     Rounds,
+    Stepping,
     Wild,
 }
 
 /// The sorts in turn.
-const CYCLE: [Sort; 11] = {
+const CYCLE: [Sort; 13] = {
     use Sort::*;
-    [Refusals, Rounds, Steps, Wild, Rounds, Rounds, Steps, Wild, Rounds, Steps, Rounds]
+    [Refusals, Rounds, Steps, Wild, Rounds, Stepping, Rounds, Steps, Wild, Rounds, Rounds, Steps, Rounds]
 };
+
+/// `bustle` in rounds as a user has them.
+pub const CALM: usize = 4;
 
 pub struct Maker {
     pub random: Random,
@@ -45,6 +50,12 @@ pub struct Maker {
     pub on: On,
     /// Whether it is the midst of a round on someone else.
     amid: bool,
+    /// In which way calls are opened.
+    pub way: Way,
+    /// How many in a hundred steps of a stepped call have something else between them.
+    pub bustle: usize,
+    /// Whether it is a call at the partner between two steps.
+    pub visiting: bool,
     out: BufWriter<Stdout>,
     left: u64,
     /// How many episodes there were on the solo filter, on the f32 filter and on pairs.
@@ -64,6 +75,10 @@ pub struct View {
     pub open: Open,
     pub drawn_weights: [f64; 2],
     pub drawn_points: Vec<f64>,
+    pub stage: Stage,
+    /// How many images of a stepped call are in, and the first one's m.
+    pub at: usize,
+    pub m: usize,
 }
 
 impl View {
@@ -80,6 +95,9 @@ impl View {
             open: filter.open,
             drawn_weights: filter.drawn_weights.map(T::wide),
             drawn_points: wide(&filter.drawn_points),
+            stage: Stage::of(filter),
+            at: filter.kept.at,
+            m: filter.kept.m,
         }
     }
 }
@@ -99,6 +117,9 @@ impl Maker {
             reader: Reader::default(),
             on: On::Solo,
             amid: false,
+            way: Way::Whole,
+            bustle: CALM,
+            visiting: false,
             out: BufWriter::new(io::stdout()),
             left: calls,
             episodes: [seed; 3],
@@ -118,19 +139,21 @@ impl Maker {
             let (whose, needed) = self.needed();
             self.turn_to(EVERYONE[whose]);
             self.turn();
-            // Every size in turn and, eleven being prime to eight, every sort of episode with each.
+            // Every size in turn and, thirteen being prime to eight, every sort of episode with each.
             let at = self.episodes[whose];
             self.episodes[whose] += 1;
             let n = 1 + (at % 8) as usize;
-            match needed.unwrap_or(CYCLE[(at % 11) as usize]) {
+            match needed.unwrap_or(CYCLE[(at % 13) as usize]) {
                 Sort::Refusals => self.refusals(n)?,
                 Sort::Steps => {
                     for _ in 0..self.random.between(1, 4) {
                         self.overflow(n)?;
                     }
                 }
-                Sort::Rounds => {
-                    let (n, turns) = (self.rare_size(n), self.random.chance(35));
+                Sort::Stepping if self.on != On::Narrow => self.stepping(n)?,
+                Sort::Rounds | Sort::Stepping => {
+                    // A flat close is refused for a turn, so that there are few as long as something wasn't met.
+                    let (n, turns) = (self.rare_size(n), self.random.chance(if self.all_met { 35 } else { 12 }));
                     self.episode(n, turns)?
                 }
                 Sort::Wild => self.wild(n)?,
@@ -141,11 +164,16 @@ impl Maker {
 
     /// Whose the next episode is, and its sort if that matters: mostly what leads to something that wasn't met yet, so that a short script meets all.
     fn needed(&mut self) -> (usize, Option<Sort>) {
-        if !self.all_met && self.random.chance(75) {
+        if !self.all_met && self.random.chance(90) {
             let holes = holes(&self.reader.table, &self.reader.places);
             let sorts = holes.iter().enumerate().flat_map(|(whose, holes)| {
-                [(Sort::Refusals, &holes.refusals), (Sort::Steps, &holes.steps), (Sort::Rounds, &holes.rounds)]
-                    .map(|(sort, unmet)| vec![(whose, Some(sort)); unmet.len()])
+                let sorts = [
+                    (Sort::Refusals, &holes.refusals),
+                    (Sort::Steps, &holes.steps),
+                    (Sort::Rounds, &holes.rounds),
+                    (Sort::Stepping, &holes.stepping),
+                ];
+                sorts.map(|(sort, unmet)| vec![(whose, Some(sort)); unmet.len()])
             });
             let sorts: Vec<_> = sorts.flatten().collect();
             if !sorts.is_empty() {
@@ -153,22 +181,23 @@ impl Maker {
             }
             self.all_met = true;
         }
-        (self.random.pick(&[0, 0, 1, 2]), None)
+        // The f32 filter has no stepped calls, so that its episodes are shorter.
+        (self.random.pick(&[0, 0, 1, 1, 2]), None)
     }
 
-    /// A size that corrections were least often accepted with; on pairs, where any will do, the one that is given.
+    /// A size that corrections were least often accepted with; on pairs, where any will do, the one that is given, and a small one as long as something wasn't met.
     fn rare_size(&mut self, n: usize) -> usize {
         if self.paired() {
-            return n;
+            return if self.all_met { n } else { 1 + n % 3 };
         }
-        let calls: Vec<String> = self.averages().iter().map(|average| named(self.on, close_of(*average))).collect();
+        let calls: Vec<String> = CORRECTIONS.iter().filter(|(call, _)| has(self.on, call)).map(|(call, _)| named(self.on, call)).collect();
         let least = |call: &String, n: usize| (1..=4).map(|m| self.accepted_with(call, n, m)).min().unwrap_or(0);
         let met: Vec<u64> = (1..=8).map(|n| calls.iter().map(|call| least(call, n)).sum()).collect();
         1 + self.rare(&met)
     }
 
     /// How often this close of a correction was accepted with these sizes.
-    fn accepted_with(&self, call: &str, n: usize, m: usize) -> u64 {
+    pub fn accepted_with(&self, call: &str, n: usize, m: usize) -> u64 {
         count_with(&self.reader.table, call, 0, &format!("n={n} m={m}"))
     }
 
@@ -218,9 +247,11 @@ impl Maker {
             3 => self.setter(1.0)?,
             4..=5 if !self.shut() => self.end(1.0)?,
             4 => {
+                self.choose_way("sclosep");
                 self.open_prediction()?;
             }
             5 => {
+                self.choose_way("sclosec");
                 self.open_correction()?;
             }
             6 => self.random_call()?,
@@ -358,42 +389,75 @@ impl Maker {
     }
 
     pub fn open_prediction(&mut self) -> Made<u8> {
-        let length = self.length(list_length(self.n()));
-        self.say(format!("openp {length}"))
+        self.open("openp")
     }
 
     pub fn open_correction(&mut self) -> Made<u8> {
+        self.open("openc")
+    }
+
+    fn open(&mut self, call: &str) -> Made<u8> {
+        if self.way == Way::Stepped && self.on != On::Narrow {
+            return self.say(format!("s{call}"));
+        }
         let length = self.length(list_length(self.n()));
-        self.say(format!("openc {length}"))
+        self.say(format!("{call} {length}"))
     }
 
+    /// The way of what is open.
+    pub fn open_way(&self) -> Way {
+        self.filter().open.way().unwrap_or(Way::Whole)
+    }
+
+    /// Closes a prediction in the way in which it was opened; the number of the first refusal, if any.
     pub fn close_prediction(&mut self, propagated: &[f64]) -> Made<u8> {
-        let line = format!("closep {}", self.list(propagated, Fault::None));
-        self.say(line)
-    }
-
-    /// A close of a correction with m measurements, by either average.
-    pub fn close_correction(&mut self, average: Average, z: &[f64], r: &[f64], measured: &[Kind<f64>], observed: &[f64]) -> Made<u8> {
-        let lists = [z, r, observed].map(|list| self.list(list, Fault::None));
-        let line = self.correction_line(average, z.len() as u64, lists, measured);
-        self.say(line)
-    }
-
-    /// The line of either close of a correction; of kinds, those from m up are junk, and the flat close has none.
-    pub fn correction_line(&mut self, average: Average, m: u64, [z, r, observed]: [String; 3], measured: &[Kind<f64>]) -> String {
-        let name = close_of(average);
-        match average {
-            Average::Weighted => format!("{name} {m} {z} {r} {} {observed}", self.four_kinds(measured)),
-            Average::Flat => format!("{name} {m} {z} {r} {observed}"),
+        match self.open_way() {
+            Way::Whole => {
+                let line = format!("closep {}", self.list(propagated, Fault::None));
+                self.say(line)
+            }
+            Way::Stepped => match self.hand_in(propagated, self.n(), 2 * self.n() + 1)? {
+                0 => self.say("sclosep"),
+                refused => Ok(refused),
+            },
         }
     }
 
-    /// How many measurements: any number on a side, else mostly the one that this close was least often accepted with.
+    /// A close of a correction with m measurements, by either average, in the way in which it was opened; the number of the first refusal, if any.
+    pub fn close_correction(&mut self, average: Average, z: &[f64], r: &[f64], measured: &[Kind<f64>], observed: &[f64]) -> Made<u8> {
+        let way = self.open_way();
+        if way == Way::Stepped {
+            let refused = self.hand_in(observed, z.len(), 2 * self.n() + 1)?;
+            if refused != 0 {
+                return Ok(refused);
+            }
+        }
+        let lists = [z, r, observed].map(|list| self.list(list, Fault::None));
+        let line = self.correction_line(way, average, z.len() as u64, lists, measured);
+        self.say(line)
+    }
+
+    /// The line of any close of a correction; of kinds, those from m up are junk. The flat close has none, and a stepped one no list of what is observed.
+    pub fn correction_line(&mut self, way: Way, average: Average, m: u64, [z, r, observed]: [String; 3], measured: &[Kind<f64>]) -> String {
+        let mut line = format!("{} {m} {z} {r}", close_of(way, average));
+        if average == Average::Weighted {
+            line = format!("{line} {}", self.four_kinds(measured));
+        }
+        match way {
+            Way::Whole => format!("{line} {observed}"),
+            Way::Stepped => line,
+        }
+    }
+
+    /// How many measurements: as many as the first image had; else any number on a side, and elsewhere mostly the one that this close was least often accepted with.
     pub fn measurements(&mut self, average: Average) -> usize {
+        if self.filter().m > 0 {
+            return self.filter().m;
+        }
         if self.paired() {
             return 1 + self.random.below(4);
         }
-        let (call, n) = (named(self.on, close_of(average)), self.n());
+        let (call, n) = (named(self.on, close_of(self.open_way(), average)), self.n());
         let met = [1, 2, 3, 4].map(|m| self.accepted_with(&call, n, m));
         1 + self.rare(&met)
     }
@@ -418,12 +482,12 @@ impl Maker {
             On::Side(_) => self.met(self.on, call, &[0]),
             _ => (1..=4).map(|m| self.accepted_with(&named(self.on, call), n, m)).sum(),
         };
-        let met: Vec<u64> = averages.iter().map(|average| met(close_of(*average))).collect();
+        let met: Vec<u64> = averages.iter().map(|average| met(close_of(self.open_way(), *average))).collect();
         averages[self.rare(&met)]
     }
 
     /// Whether some state is a turn.
-    fn turns(&self) -> bool {
+    pub fn turns(&self) -> bool {
         self.filter().kinds.iter().any(|kind| kind.half().is_some())
     }
 
@@ -459,10 +523,12 @@ impl Maker {
     }
 }
 
-pub fn close_of(average: Average) -> &'static str {
-    match average {
-        Average::Weighted => "closec",
-        Average::Flat => "closef",
+pub fn close_of(way: Way, average: Average) -> &'static str {
+    match (way, average) {
+        (Way::Whole, Average::Weighted) => "closec",
+        (Way::Whole, Average::Flat) => "closef",
+        (Way::Stepped, Average::Weighted) => "sclosec",
+        (Way::Stepped, Average::Flat) => "sclosef",
     }
 }
 

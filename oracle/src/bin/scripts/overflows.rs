@@ -1,8 +1,10 @@
 //! Filters led to each refusal that a step gives: 7, 8, and 9 in every listed step result, of the weighted close and of the flat one.
 
 use oracle::coverage::{count, count_with, has, STEPS};
+use oracle::filter::Way;
 use oracle::kinds::Kind;
 use oracle::script::{named, On};
+use oracle::stages::STEPPED;
 use oracle::steps::{Average, Params};
 
 use crate::maker::{close_of, Fault, Made, Maker};
@@ -14,10 +16,12 @@ const PLAIN: [Kind<f64>; 4] = [Kind::Plain; 4];
 impl Maker {
     pub fn overflow(&mut self, n: usize) -> Made<()> {
         let (call, step) = self.aim();
-        // One state has no entry below the diagonal; a row wants as many states.
+        self.way = if STEPPED.contains(&call) { Way::Stepped } else { Way::Whole };
+        // One state has no entry below the diagonal; a row wants as many states; a stepped call of few states is a short one.
         let n = match step {
             "P's pivot" => n.max(1 + self.rare_row("openp", 7, 8)),
             "P's factor entry" => n.max(2),
+            _ if self.way == Way::Stepped && self.random.chance(80) => 1 + n % 3,
             _ => n,
         };
         // These weigh exactly (N is a power of two), so that means of equal points are those points.
@@ -27,8 +31,8 @@ impl Maker {
             return Ok(()); // too long a line
         }
         match call {
-            "closec" => self.stopped_correction(Average::Weighted, step)?,
-            "closef" => {
+            "closec" | "sclosec" => self.stopped_correction(Average::Weighted, step)?,
+            "closef" | "sclosef" => {
                 if self.random.chance(5) {
                     // Refused for its kind before any step is taken.
                     self.half_circle()?;
@@ -73,13 +77,13 @@ impl Maker {
         }
     }
 
-    /// A call and the step that is to stop it: mostly that which least often did. (Where one open is stopped, so is the other.)
+    /// A call and the step that is to stop it: mostly that which least often did. (Where one open is stopped, so are the others.)
     /// On pairs fewer come, so that the call and its number count, whatever the step.
     fn aim(&mut self) -> (&'static str, &'static str) {
-        let calls = STEPS.into_iter().filter(|(call, _)| *call != "openc" && has(self.on, call));
-        let aims: Vec<(&str, u8, &str)> = calls
-            .flat_map(|(call, steps)| steps.iter().filter(|(number, _)| *number != 3).map(move |(number, step)| (call, *number, *step)))
-            .collect();
+        let others = ["openc", "sopenp", "sopenc"];
+        let calls = STEPS.into_iter().filter(|(call, _)| !others.contains(call) && has(self.on, call));
+        let aims: Vec<(&str, u8, &str)> =
+            calls.flat_map(|(call, steps)| steps.iter().map(move |(number, step)| (call, *number, *step))).collect();
         let met = |(call, number, step): &(&str, u8, &str)| match self.on {
             On::Side(_) => count(&self.reader.table, &named(self.on, call), *number),
             _ => count_with(&self.reader.table, &named(self.on, call), *number, step),
@@ -105,14 +109,17 @@ impl Maker {
         self.say(line)
     }
 
-    /// Both opens, one after the other; on a stale filter both draw, and where one is refused so is the other.
-    fn open_both(&mut self) -> Made<()> {
-        if self.random.chance(50) {
-            self.open_prediction()?;
-            self.open_correction()?;
-        } else {
-            self.open_correction()?;
-            self.open_prediction()?;
+    /// All opens, one after the other; on a stale filter they all draw, and where one is refused so are the others.
+    fn open_all(&mut self) -> Made<()> {
+        let ways: &[Way] = if self.on == On::Narrow { &[Way::Whole] } else { &[Way::Whole, Way::Stepped] };
+        let correction_first = self.random.chance(50);
+        for (way, correction) in ways.iter().flat_map(|way| [(*way, correction_first), (*way, !correction_first)]) {
+            self.way = way;
+            if correction {
+                self.open_correction()?;
+            } else {
+                self.open_prediction()?;
+            }
         }
         Ok(())
     }
@@ -127,7 +134,7 @@ impl Maker {
         let (mut p, row) = (self.random.covariance(n, 1.0), self.rare_row("openp", 7, n));
         self.bad_pivot(&mut p, n, row);
         self.set_p(&p)?;
-        self.open_both()
+        self.open_all()
     }
 
     fn entry_of_p(&mut self) -> Made<()> {
@@ -135,7 +142,7 @@ impl Maker {
         let mut p = diagonal(n, 1.0);
         self.entry_overflows(&mut p, n);
         self.set_p(&p)?;
-        self.open_both()
+        self.open_all()
     }
 
     /// Makes an entry of the factor overflow, and at times the pivot of another column bad: the earlier column decides.
@@ -163,7 +170,7 @@ impl Maker {
         self.set_p(&variances)?;
         let par = Params { alpha: alpha * edges.wide.sqrt(), beta: 0.0, kappa: 1.0 - n as f64 };
         self.say(format!("setpar {}", self.params(par)))?;
-        self.open_both()
+        self.open_all()
     }
 
     /// Two of these overflow in sum.
@@ -233,11 +240,12 @@ impl Maker {
         Ok(())
     }
 
-    /// A prediction whose points are all alike.
-    fn alike(&mut self, one: &[f64]) -> Made<()> {
+    /// A prediction that leads to the correction which is to be stopped: with the whole list, whichever way that goes.
+    fn moved_to(&mut self, points: &[f64]) -> Made<()> {
+        let way = std::mem::replace(&mut self.way, Way::Whole);
         self.open_prediction()?;
-        let moved = one.repeat(2 * one.len() + 1);
-        self.close_prediction(&moved)?;
+        self.close_prediction(points)?;
+        self.way = way;
         Ok(())
     }
 
@@ -272,7 +280,7 @@ impl Maker {
             // Each point is finite, their sum isn't.
             Average::Flat => {
                 let one: Vec<f64> = (0..n).map(|_| self.random.within(0.7, 1.7) * 1.0e308 * self.random.sign()).collect();
-                self.alike(&one)?;
+                self.moved_to(&one.repeat(2 * n + 1))?;
             }
         }
         let observed = self.opened_correction(m)?;
@@ -299,10 +307,9 @@ impl Maker {
                 self.say(format!("setpar {}", self.params(Params { alpha: 1.0, beta: -1.0, kappa: 0.0 })))?;
                 let size = self.width().largest().sqrt() * sign;
                 let (i, centre, pair) = (self.random.below(n), 0.9 * size, 0.93 * size * (n as f64).sqrt());
-                self.open_prediction()?;
                 let mut moved = vec![0.0; n * (2 * n + 1)];
                 (moved[i], moved[n + i], moved[(1 + n) * n + i]) = (centre, pair, -pair);
-                self.close_prediction(&moved)?;
+                self.moved_to(&moved)?;
                 let (mut observed, j) = self.opposite(m, pair)?;
                 observed[j] = -centre;
                 observed
@@ -335,8 +342,10 @@ impl Maker {
     /// Refused, the call stays open for more.
     pub fn pivots_of_s(&mut self, average: Average) -> Made<()> {
         for _ in 0..3 {
-            let row = self.rare_row(close_of(average), 8, 4);
-            let m = (row + 1).max(1 + self.random.below(4));
+            // Of a stepped call all images may be in, so that m and the points stand.
+            let rows = if self.filter().m > 0 { self.filter().m } else { 4 };
+            let row = self.rare_row(close_of(self.open_way(), average), 8, rows);
+            let m = if self.filter().m > 0 { rows } else { (row + 1).max(1 + self.random.below(4)) };
             let (mut observed, mut z) = (vec![0.0; m * (2 * self.n() + 1)], vec![0.0; m]);
             let mut r = self.random.covariance(m, 1.0);
             self.bad_pivot(&mut r, m, row);

@@ -3,7 +3,7 @@
 use oracle::pair::Side;
 use oracle::script::{On, SHEET};
 
-use crate::maker::{Made, Maker};
+use crate::maker::{Made, Maker, CALM};
 
 impl Maker {
     /// On a pair the turn goes to either side.
@@ -20,12 +20,33 @@ impl Maker {
         }
     }
 
-    /// While a call is open on one side: something at its partner. Says no on a filter that has none.
+    /// While a call is open on one side: something at its partner. Says no on a filter that has none, and where it is a visit from there already.
     pub fn at_the_partner(&mut self, unit: f64) -> Made<bool> {
         let On::Side(side) = self.on else {
             return Ok(false);
         };
+        if self.visiting {
+            return Ok(false);
+        }
         self.on = On::Side(side.partner());
+        self.something(unit)?;
+        self.on = On::Side(side);
+        Ok(true)
+    }
+
+    /// Between two steps of a stepped call on one side: something at its partner, from where nobody comes back to this call.
+    pub fn visit(&mut self, unit: f64) -> Made<()> {
+        let (on, bustle) = (self.on, self.bustle);
+        self.turn_to_partner();
+        (self.visiting, self.bustle) = (true, CALM);
+        self.something(unit)?;
+        (self.visiting, self.bustle) = (false, bustle);
+        self.on = on;
+        Ok(())
+    }
+
+    /// A call or a round, or a part of one.
+    fn something(&mut self, unit: f64) -> Made<()> {
         let shut = self.shut();
         match self.random.below(14) {
             0..=1 if shut => self.prediction(unit)?,
@@ -36,10 +57,12 @@ impl Maker {
             }
             // Left open, so that the two need not end in the order in which they began.
             4 => {
+                self.choose_way("sclosep");
                 self.open_prediction()?;
                 self.change(unit)?;
             }
             5 => {
+                self.choose_way("sclosec");
                 self.open_correction()?;
                 self.change(unit)?;
             }
@@ -50,8 +73,7 @@ impl Maker {
                 self.say("dump")?;
             }
         }
-        self.on = On::Side(side);
-        Ok(true)
+        Ok(())
     }
 
     /// The sheet is changed between the predictions of both sides and a fix of either.

@@ -38,7 +38,7 @@ impl Maker {
                 13..=14 => self.setter(unit)?,
                 15 => self.reading()?,
                 16 => self.value()?,
-                17 => self.stray()?,
+                17 => self.misfit()?,
                 18 => self.refused_setter()?,
                 19 => {
                     if self.random.chance(30) {
@@ -168,6 +168,7 @@ impl Maker {
     }
 
     pub fn prediction(&mut self, unit: f64) -> Made<()> {
+        self.choose_way("sclosep");
         if self.random.chance(6) {
             self.short_open("openp")?;
         }
@@ -182,8 +183,8 @@ impl Maker {
     pub fn end(&mut self, unit: f64) -> Made<()> {
         match self.filter().open {
             Open::Nothing => Ok(()),
-            Open::Prediction => self.end_prediction(unit),
-            Open::Correction => self.end_correction(unit),
+            Open::Prediction(_) => self.end_prediction(unit),
+            Open::Correction(_) => self.end_correction(unit),
         }
     }
 
@@ -194,7 +195,7 @@ impl Maker {
             self.faulty_close_prediction(&propagated)?;
         }
         if self.random.chance(7) {
-            return self.abandoned();
+            return self.given_up();
         }
         if self.close_prediction(&propagated)? != 0 {
             self.after_refusal()?;
@@ -215,6 +216,7 @@ impl Maker {
     }
 
     pub fn correction(&mut self, unit: f64) -> Made<()> {
+        self.choose_way("sclosec");
         if self.random.chance(6) {
             self.short_open("openc")?;
         }
@@ -261,7 +263,7 @@ impl Maker {
             self.faulty_close_correction(&z, &r, &measured, &observed)?;
         }
         if self.random.chance(5) {
-            return self.abandoned();
+            return self.given_up();
         }
         let number = self.close_correction(average, &z, &r, &measured, &observed)?;
         if number != 0 {
@@ -280,7 +282,7 @@ impl Maker {
     }
 
     /// A draw was refused: put a P and an x that have a draw, and parameters of common size.
-    fn mended(&mut self, unit: f64) -> Made<()> {
+    pub fn mended(&mut self, unit: f64) -> Made<()> {
         self.after_refusal()?;
         let n = self.n();
         if !self.paired() && self.random.chance(20) {
@@ -297,7 +299,7 @@ impl Maker {
         Ok(())
     }
 
-    fn abandoned(&mut self) -> Made<()> {
+    pub fn abandoned(&mut self) -> Made<()> {
         self.say("abandon")?;
         self.after_refusal()
     }
@@ -322,11 +324,10 @@ impl Maker {
             match self.random.below(5) {
                 0..=1 => self.reading()?,
                 2 => self.setter(unit)?,
-                3 => {
-                    let line = self.random.pick(&["openp 136", "openc 136", "openp 0", "dump"]);
-                    self.say(line)?;
+                3 if self.random.chance(25) => {
+                    self.say("dump")?;
                 }
-                _ => self.wrong_close()?,
+                _ => self.misfit()?,
             }
         }
         Ok(())

@@ -1,6 +1,7 @@
 //! Bad numbers in every slice that a call searches, and bad pivots in every row: where the first one stands, and what else is bad.
 
-use oracle::coverage::{count_with, has, searches, slices_of};
+use oracle::coverage::{count, count_with, has, searches, slices_of, waiting};
+use oracle::filter::Way;
 use oracle::kinds::Kind;
 use oracle::places::{self, AFTER_PARAM, AFTER_PLAIN, SEVERAL, SPOTS};
 use oracle::script::named;
@@ -16,6 +17,10 @@ pub struct Spot {
     several: bool,
 }
 
+impl Spot {
+    pub const FRONT: Spot = Spot { first: 0, several: false };
+}
+
 impl Maker {
     /// A call's name in the tables; New and point have no side.
     pub fn name_of(&self, call: &str) -> String {
@@ -27,7 +32,7 @@ impl Maker {
     }
 
     /// How often a call with this number has shown such a thing.
-    fn has_shown(&self, call: &str, number: u8, word: &str) -> u64 {
+    pub fn has_shown(&self, call: &str, number: u8, word: &str) -> u64 {
         count_with(&self.reader.places, &self.name_of(call), number, word)
     }
 
@@ -69,10 +74,10 @@ impl Maker {
     }
 
     /// Half-turns of which one at least isn't finite, among plain kinds and half-turns that 6 would refuse.
-    pub fn bad_half_turns(&mut self, measured: &mut [Kind<f64>]) {
-        let (mut halves, spot) = (vec![0.0; measured.len()], self.spot("closec", 56));
+    pub fn bad_half_turns(&mut self, call: &str, measured: &mut [Kind<f64>]) {
+        let (mut halves, spot) = (vec![0.0; measured.len()], self.spot(call, 56));
         self.spoil(&mut halves, spot);
-        let met = [AFTER_PLAIN, AFTER_PARAM].map(|word| self.has_shown("closec", 56, word));
+        let met = [AFTER_PLAIN, AFTER_PARAM].map(|word| self.has_shown(call, 56, word));
         for (kind, h) in measured.iter_mut().zip(halves) {
             *kind = match (h.is_finite(), self.random.below(3)) {
                 (false, _) => Kind::Turn(h),
@@ -97,9 +102,11 @@ impl Maker {
         }
     }
 
-    /// Of all that the search of this slice can show, how often that which the call has shown least.
-    fn least(&self, call: &str, number: u8) -> u64 {
-        searches(call, number).iter().map(|word| self.has_shown(call, number, word)).min().unwrap_or(0)
+    /// Of all that the call can show with this number, how often that which it has shown least.
+    pub fn least(&self, call: &str, number: u8) -> u64 {
+        let words = if number > 50 { searches(call, number) } else { waiting(call, number) };
+        let shown = words.iter().map(|word| self.has_shown(call, number, word)).min();
+        shown.unwrap_or_else(|| count(&self.reader.table, &self.name_of(call), number))
     }
 
     /// As `faults`, but in slices alone, the first mostly one of which least has been shown.
@@ -165,11 +172,11 @@ impl Maker {
         for call in ["readx", "readp", "readq", "readpts"] {
             self.read(call, true)?;
         }
+        self.way = Way::Whole;
         self.open_prediction()?;
-        for call in ["openp 136", "openc 136"] {
-            self.say(call)?;
+        for _ in 0..3 {
+            self.misfit()?;
         }
-        self.wrong_close()?;
         for _ in 0..2 {
             let (points, spot) = (self.filter().drawn_points, self.spot("closep", 54));
             let line = format!("closep {}", self.list(&points, Fault::Number(spot)));
@@ -184,11 +191,12 @@ impl Maker {
         for _ in 0..6 {
             let averages = self.averages();
             let least = |call| slices_of(call).iter().map(|number| self.least(call, *number)).min().unwrap_or(0);
-            let met: Vec<u64> = averages.iter().map(|average| least(close_of(*average))).collect();
+            let met: Vec<u64> = averages.iter().map(|average| least(close_of(Way::Whole, *average))).collect();
             let (average, m) = (averages[self.rare(&met)], self.random.pick(&[3, 4]));
             let (z, r, observed) = (vec![0.0; m], self.random.covariance(m, 1.0), vec![0.0; m * (2 * n + 1)]);
-            let faults = self.bad_slices(close_of(average), faults_of(average));
-            self.faulty_close(average, &faults, &z, &r, &[Kind::Plain; 4][..m], &observed)?;
+            let (call, numbers) = (close_of(Way::Whole, average), faults_of(Way::Whole, average));
+            let faults = if self.random.chance(70) { self.bad_slices(call, numbers) } else { self.faults(call, numbers) };
+            self.faulty_close(Way::Whole, average, &faults, &z, &r, &[Kind::Plain; 4][..m], &observed)?;
         }
         let average = self.average();
         self.pivots_of_s(average)?;

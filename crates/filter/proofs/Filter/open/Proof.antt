@@ -84,7 +84,7 @@ drawer c = c .before .before .before
 drawn-is : (c : tie.After-generate-sigma-points) → c .generate-sigma-points .result ≡ drawn (run (drawing (begun (drawer (undrawn c)) .args .self)))
 drawn-is c = let s = begun (drawer (undrawn c)) .args .self in c .generate-sigma-points .ensures ∙ ap (λ (v : Float). drawn (drawOf binary64 (s .sheet .n) (s .track .x) (s .track .p) v)) (c .before .before .before .scale .ensures)
 
-draws-is : (c : tie.Else2) → let a = begun (drawer c) .args in plan binary64 (seen (a .self)) (opening (a .stage) (now (a .out))) ≡ draws binary64 (toStage (a .stage)) (a .self)
+draws-is : (c : tie.Else2) → let a = begun (drawer c) .args in plan binary64 (seen (a .self)) (opening (a .stage) (now (a .out))) ≡ draws binary64 (opened (toStage (a .stage)) (a .self .sheet .n)) (a .self)
 draws-is c = let a = begun (drawer c) .args in opening-drawn binary64 (a .self) (now (a .out)) (a .stage) (sym (current (c .before)) ∙ c .if2 .left)
 
 returns-3 : tie.Need-returns-3

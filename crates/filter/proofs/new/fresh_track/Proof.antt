@@ -1,5 +1,5 @@
 -- `new::fresh_track` meets its contract. Assumes nothing.
-use mathlib.Core.Path.{refl}
+use borrow.Author.Needs.{needs}
 use lib.Ieee.{ofBits}
 use Rattle.floats.specs.Numbers.{zeros}
 use Rattle.filter.proofs.new.fresh_track.Statement.{statement}
@@ -7,7 +7,7 @@ use Rattle.filter.proofs.new.fresh_track.Tie as tie
 
 returns : tie.Need-returns
 unfolding zeros ofBits
-returns c = refl
+returns c = rw (c .nothing-kept .ensures)
 
 pub fresh-track-spec : {M : Type 1} → statement M
-fresh-track-spec = tie.close (tie.spec returns)
+fresh-track-spec = tie.close (tie.spec (λ c κs. search needs) returns)

@@ -86,7 +86,7 @@ drawer c = c .before .before .before
 drawn-is : (c : tie.After-generate-sigma-points) → wideDrawn (c .generate-sigma-points .result) ≡ drawn (run (drawing (wideFilter (begun (drawer (undrawn c)) .args .self))))
 drawn-is c = let s = wideFilter (begun (drawer (undrawn c)) .args .self) in c .generate-sigma-points .ensures ∙ ap (λ (v : Float). drawn (drawOf binary32 (s .sheet .n) (s .track .x) (s .track .p) v)) (c .before .before .before .scale .ensures)
 
-draws-is : (c : tie.Else2) → let a = begun (drawer c) .args in plan binary32 (seen (wideFilter (a .self))) (opening (a .stage) (now (a .out))) ≡ draws binary32 (toStage (a .stage)) (wideFilter (a .self))
+draws-is : (c : tie.Else2) → let a = begun (drawer c) .args in plan binary32 (seen (wideFilter (a .self))) (opening (a .stage) (now (a .out))) ≡ draws binary32 (opened (toStage (a .stage)) (a .self .sheet .n)) (wideFilter (a .self))
 draws-is c = let a = begun (drawer c) .args in opening-drawn binary32 (wideFilter (a .self)) (now (a .out)) (a .stage) (sym (current (c .before)) ∙ c .if2 .left)
 
 returns-3 : tie.Need-returns-3

@@ -48,4 +48,4 @@ step-of-spec =
     (λ c κs. search needs)
     (λ c. hit (past5 (c .before .before .before)) (c .before .same-bytes6 .ensures) (c .if6 .taken))
     (λ c κs. search needs)
-    (λ c. last (past6 (c .before)) (c .reading-of .ensures)))
+    (λ c. last (past6 (c .before)) (c .stepped-of .ensures)))

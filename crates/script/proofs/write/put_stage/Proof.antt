@@ -12,6 +12,12 @@ returns-2 c = rw (c .before .before .before .before .before .enum-told2 .given .
 returns-3 : tie.Need-returns-3
 returns-3 c = rw (c .before .before .before .before .before .enum-told3 .given .1) (c .before .before .put3 .ensures)
 
+returns-4 : tie.Need-returns-4
+returns-4 c = rw (c .before .before .before .before .before .enum-told4 .given .1) (c .before .before .put4 .ensures)
+
+returns-5 : tie.Need-returns-5
+returns-5 c = rw (c .before .before .before .before .before .enum-told5 .given .1) (c .before .before .put5 .ensures)
+
 pub put-stage-spec : {M : Type 1} → statement M
 put-stage-spec =
     tie.close
@@ -26,8 +32,18 @@ put-stage-spec =
     (λ c. search needs)
     (λ c κs. search needs)
     (λ c. search needs)
+    (λ c. search needs)
+    (λ c κs. search needs)
+    (λ c. search needs)
+    (λ c. search needs)
+    (λ c κs. search needs)
+    (λ c. search needs)
     returns
     (λ c. search needs)
     returns-2
     (λ c. search needs)
-    returns-3)
+    returns-3
+    (λ c. search needs)
+    returns-4
+    (λ c. search needs)
+    returns-5)
