@@ -2,7 +2,7 @@
 """Makes the crates at f32 from those at f64: the floors, and what the programs read, answer and write.  narrow.py [CRATE..] writes crates/CRATE32;  narrow.py --check says which made files have parted from what it would make, and ends with 1 where some have.
 
 Code and the proofs of functions are the same text but for the width: an edit belongs into the f64 crate, and is made here again. Definitions and laws are over the format: they are cited, never copied.
-What has no float in it is SHARED: called, and not made again. What the f32 filter lacks is LEFT, a field of it LACKED. Written by hand are specs/, must-fail/, the laws of lists of kinds in angles32, the root of replay32, and the proofs under OWN.
+What has no float in it is SHARED: called, and not made again. What the f32 filter lacks is LEFT, a field of it LACKED. Written by hand are specs/, must-fail/, the laws of lists of kinds in angles32, the root of lines32, and the proofs under OWN.
 A contract reads a struct or enum T of f32 as the one of f64, by wideT of specs/Wide.antt; PROOFS, ARGS, HELD and NUMBERS have the few other words in which the widths differ.
 """
 import os
@@ -10,7 +10,7 @@ import re
 import sys
 
 HERE = os.path.dirname(os.path.abspath(__file__))
-CRATES = ['floats', 'root', 'angles', 'matrix', 'sigma', 'correction', 'filter', 'words', 'script', 'replay']
+CRATES = ['floats', 'root', 'angles', 'matrix', 'sigma', 'correction', 'filter', 'words', 'script', 'lines']
 
 MADE = 'At f32, made from'
 
@@ -26,12 +26,12 @@ SHARED = {
         'write::put', 'write::less', 'write::first', 'write::gather', 'write::put_decimal', 'write::put_verdict', 'write::put_bit', 'write::put_stage', 'write::put_way',
     ],
 }
-# what is not asked for at f32: the guess at a root and its judge (the digits alone are quick enough there), the flat close and what it tests, what a stepped call keeps; of replay the program itself, what is held, and the lines and parts of answers that are not the f32 filter's
+# what is not asked for at f32: the guess at a root and its judge (the digits alone are quick enough there), the flat close and what it tests, what a stepped call keeps; of lines its root, what is held, and the lines and parts of answers that are not the f32 filter's
 LEFT = {
     'root': ['lib::is_nearest_root', 'lib::product', 'lib::high_part', 'lib::guessed_root', 'lib::nearest_root'],
     'correction': ['lib::flat'],
     'filter': ['closes::close_correction_flat', 'tests::is_plain', 'tests::all_plain', 'lib::Kept', 'drawn::nothing_kept'],
-    'replay': ['lib::main', 'lib::take_piece', 'lib::held', 'calls::new_pair', 'calls::kinds_of', 'calls::on_side', 'calls::narrow', 'calls::code', 'calls::answer',
+    'lines': ['lib::lib', 'lib::held', 'calls::new_pair', 'calls::kinds_of', 'calls::on_side', 'calls::code',
                'calls::image_correction', 'calls::observed_of', 'calls::stepped', 'answers::image_numbers', 'answers::put_progress', 'answers::put_kept'],
 }
 # a field that f32 lacks, with the lines that make it and fill it in: its constant stands in wideT alone
@@ -106,13 +106,13 @@ SAID = {
     'filter/tests.rt': [('// ---- 10 and 6\n', '// ---- 6\n')],
     'filter/measurement.rt': [("takes its place among them, in the order of the refusals: whether it fits (3), whether the kinds that have to be plain are (10), whether its kinds pass (6).", "takes its place among them, in the order of the refusals: whether it fits (3), whether its kinds pass (6); `plain` is the test of 10, which no close at f32 asks.")],
     'script/numbers.rt': [('// Sizes, numbers, lists and kinds, each', '// Numbers, lists and kinds, each')],
-    'replay/calls.rt': [(', imagep LIST', ''), (', ask BUF', ''), (', sopenp, sopenc, sclosep:', ':')],
-    'replay/solo.rt': [(', imagep:', ':'), (', ask:', ':')],
+    'lines/calls.rt': [(', imagep LIST', ''), (', ask BUF', ''), (', sopenp, sopenc, sclosep:', ':')],
+    'lines/solo.rt': [(', imagep:', ':'), (', ask:', ':')],
     'filter/new.rt': [('Each part is made by itself, and several tracks may be put on one sheet.', 'Each part is made by itself.')],
 }
 # where the words that a made proof takes in stand
 HOMES = {w: ('angles', 'proofs.Places') for w in ('kind-at', 'kinds-set', 'kinds-long')}
-# in replay: at f32 the filter is all that is held and its answer all that a call has left, and there is no side, no flat close and no stepped call
+# in lines: at f32 the filter is all that is held and its answer all that a call has left, and there is no side, no flat close and no stepped call
 HELD = [
     (r'^ *Name::(?:Ask|Image\w+|\w+Stepped)\b.* => (?:\{\n.*\n *\}|.*)\n', ''), (r'\bstepped\(name, held, s, at, out, used\)', 'answers::bad(held, out, used)'), (r'observed_of\(name, ', 'script::list_at('), (r'^ *let at = put_kept\(.*\n', ''),
     ('use crate::held;', 'use crate::solo;'), ('use crate::held::Held;', 'use filter::Filter;'), ('use crate::held::Done;', 'use filter::Answer;'), (r'\bHeld\b', 'Filter'), (r'\bDone\b', 'Answer'),
@@ -261,7 +261,7 @@ def source(crate, name, text):
             else:
                 text = imported(text, f'use {there}::{item};\n')
         text = re.sub(rf'(?<![\w:])crate::{item}\b' if module == 'lib' else rf'(?<![\w:])(?:crate::)?{module}::{item}\b', f'{there}::{item}', text)
-    if crate == 'replay':
+    if crate == 'lines':
         for a, b in HELD:
             text = re.sub(a, b, text, flags=re.M)
     else:

@@ -14,7 +14,6 @@ use Rattle.sigma.specs.Predict.{Moment}
 use Rattle.sigma.specs.Weights.{weightsOf}
 use Rattle.correction.specs.Correct.{applyPlan}
 use Rattle.filter.specs.declared.Filter.{Filter}
-use Rattle.filter.specs.declared.Weighted.{Weighted}
 use Rattle.filter.specs.Filters.{isPredictingStepped, isCorrectingStepped, isStepped, seen, Writing, q-set, params-set, kinds-set, Setting, x-set, p-set, opened-prediction, opened-correction, opened-prediction-stepped, opened-correction-stepped, Change, writes, sets, keeps, changed, closedWith}
 use Rattle.filter.specs.Calls.{SheetCall, set-q, set-params, set-kind, SetCall, set-x, set-p, Call, writing, setting, stepping, ask, image-prediction, image-correction, closing, closing-stepped, open-prediction, open-correction, open-prediction-stepped, open-correction-stepped, close-prediction, close-correction, close-correction-flat, SteppedClose, close-prediction-stepped, close-correction-stepped, close-correction-flat-stepped, withList, asks, Done, done, writingOf, askedFor, handedIn, opened, openedStepped, closed, draws, closePlan, plan, weightedFrom, flatFrom}
 use Rattle.filter.specs.Steps.{Stepped, stepped, step}

@@ -18,7 +18,7 @@ use Rattle.filter.specs.declared.Answer.{Answer}
 use Rattle.filter.specs.Asked.{inRange, within, every}
 use Rattle.filter.specs.Filters.{filter, isShut, isStepped, keeping, nothingKept, withKept, abandoned}
 use Rattle.filter.specs.Calls.{SheetCall, SetCall, CloseCall, ReadCall, StepCall, SteppedClose, close-correction-stepped, close-correction-flat-stepped, withList, ask, image-prediction, image-correction, Call, writing, setting, stepping, closing, closing-stepped, abandon, reading, fits, namedBy, askedFor}
-use Rattle.filter.specs.Steps.{Reply, Stepped, step, answered}
+use Rattle.filter.specs.Steps.{Stepped, step, answered}
 use Rattle.stepped.specs.Ways.{Sort, sortOf, steppedStage, wholeStage, atStage, openedAt, unlessRefused}
 use Rattle.stepped.proofs.Ways.{closes-whole}
 use Rattle.demands.specs.Rounds.{steppedOpen, wholeOpen, handing, Images, rounds}

@@ -13,7 +13,6 @@ use lib.Ieee.{Float, Format}
 use lib.Ieee.Scale.{finite}
 use Rattle.floats.specs.Refusal.{accepted}
 use Rattle.floats.specs.Numbers.{zeros, allFinite, aboveZero}
-use Rattle.floats.specs.Fronts.{front}
 use Rattle.floats.proofs.Finite.{all-zeros}
 use Rattle.angles.specs.Kinds.{plain, halfOf}
 use Rattle.matrix.specs.Results.{mapped}

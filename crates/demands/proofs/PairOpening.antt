@@ -7,7 +7,6 @@ use Rattle.filter.specs.declared.Filter.{Filter}
 use Rattle.filter.specs.Asked.{inRange}
 use Rattle.filter.specs.Filters.{isShut, abandoned}
 use Rattle.filter.specs.Calls.{SetCall, Call, setting, abandon}
-use Rattle.filter.specs.Steps.{step}
 use Rattle.pairs.specs.declared.Pair.{Pair}
 use Rattle.pairs.specs.declared.Side.{Side}
 use Rattle.pairs.specs.declared.Side.the-variants.{First, Second}

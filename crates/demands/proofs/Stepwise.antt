@@ -1,7 +1,7 @@
 -- Point by point: what an ask and an image do once taken, the images so far as the front of their list, and the whole-list close on that front. Assumes nothing.
-use Prim.Native.Nat.{ℕ, zero, suc, _+_, _*_, _<_, _≤_}
+use Prim.Native.Nat.{ℕ, zero, suc, _+_, _*_, _≤_}
 use mathlib.Core.Path.{_≡_, refl, sym, ap, ap₂, _∙_, subst}
-use mathlib.Core.Bool.{Bool, true, false, not, _&&_, cond}
+use mathlib.Core.Bool.{Bool, true, false, _&&_, cond}
 use mathlib.Core.List.{List, [], _∷_, _++_}
 use native.Mathlib.Numerals.{add-one}
 use native.Mathlib.Nat.{mul-le-mul, mul-le-mul-right}
@@ -11,16 +11,14 @@ use lib.Dec.{leb, eqb}
 use lib.ListN.{length, take, drop, length-drop}
 use lib.Seq.{paste, length-take-le, take-at, drop-at, take-take, drop-drop, take-add, drop-append-seam}
 use lib.Ieee.{Float, Format}
-use Rattle.floats.specs.declared.Verdict.{Verdict}
 use Rattle.floats.specs.declared.Slice.the-variants.{Noise, Points, Measurement, Lone}
 use Rattle.floats.specs.Refusal.{Refusal, taken, Outcome, refused, accepted}
-use Rattle.floats.specs.Search.{Input, input, searched}
+use Rattle.floats.specs.Search.{input, searched}
 use Rattle.floats.specs.Numbers.{zeros, allFinite}
 use Rattle.floats.specs.Fronts.{front}
 use Rattle.floats.proofs.Fronts.{front-none, length-front}
 use Rattle.floats.proofs.Refusals.{number-above}
 use Rattle.angles.specs.Kinds.{isPlain}
-use Rattle.angles.specs.declared.Kind.{Kind}
 use Rattle.matrix.specs.Results.{Plan, finish, run, mapped}
 use Rattle.matrix.proofs.Cells.{length-zeros}
 use Rattle.sigma.specs.Draw.{pointNumbers}
@@ -29,7 +27,6 @@ use Rattle.sigma.specs.Weights.{w0mOf}
 use Rattle.correction.specs.Leaves.{widened}
 use Rattle.correction.specs.Correct.{applyPlan, given, weightedHead}
 use Rattle.correction.specs.Flat.{flatHead}
-use Rattle.filter.specs.declared.Stage.{Stage}
 use Rattle.filter.specs.declared.Kept.{Kept}
 use Rattle.filter.specs.declared.Sheet.{Sheet}
 use Rattle.filter.specs.declared.Weighted.{Weighted}
@@ -37,14 +34,13 @@ use Rattle.filter.specs.declared.Filter.{Filter}
 use Rattle.filter.specs.declared.Answer.{Answer}
 use Rattle.filter.specs.Asked.{Asks, inRange, within, long, fit, every, guarded}
 use Rattle.filter.specs.Filters.{filter, close, isPredictingStepped, isCorrectingStepped, isStepped, keeping, nothingKept, seen, Setting, opened-prediction, opened-correction, opened-correction-stepped, withDrawn, withKept}
-use Rattle.filter.specs.Calls.{open-correction-stepped, ask, image-prediction, image-correction, close-prediction, close-correction, close-correction-flat, SteppedClose, close-prediction-stepped, close-correction-stepped, close-correction-flat-stepped, withList, Call, setting, stepping, closing, closing-stepped, CloseCall, fits, halves, sized, named, namedBy, observedNumbers, measurement, asks, Done, opened, openedStepped, askedFor, handedIn, closed, closePlan, plan}
+use Rattle.filter.specs.Calls.{open-correction-stepped, ask, image-prediction, image-correction, SteppedClose, close-prediction-stepped, close-correction-stepped, close-correction-flat-stepped, withList, Call, setting, stepping, closing, closing-stepped, CloseCall, fits, halves, named, namedBy, asks, Done, opened, openedStepped, askedFor, handedIn, closed, closePlan, plan}
 use Rattle.filter.specs.Steps.{Stepped, stepped, step, answered}
 use Rattle.stepped.specs.Ways.{Sort, predicts, corrects, sortOf, steppedStage, wholeStage, atStage, openedAt, unlessRefused}
 use Rattle.stepped.proofs.Seen.{fits-seen, asked-is, predicted-is, observed-is, observed-asks}
 use Rattle.stepped.proofs.Ways.{not-zero, opens-prediction, opens-correction, closes-whole}
 use Rattle.demands.specs.Rounds.{steppedOpen, wholeOpen, imageNumbers, handing, Measured, Images, rounds}
 use Rattle.demands.specs.Runs.{ranTo}
-use Rattle.demands.proofs.Rows.{two-ways}
 use Rattle.demands.proofs.Passed.{both, both-true, finiteIn, Pass, Passed, by-cases, run-cases}
 use Rattle.demands.proofs.Places.{finite-searched}
 use Rattle.demands.proofs.Turned.{in-range-is}

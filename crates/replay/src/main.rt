@@ -1,49 +1,94 @@
 // Reads a script of calls on standard input, runs them on a filter, on a pair and on a filter at f32, and writes the answers to standard output.
 // The input is read in pieces; a line is gathered from them and answered, and what the answers gather is written once the lines of a piece are done.
-use crate::held::Held;
-use crate::held::Whose;
-use filter::Filter;
+use filter32::Filter;
 use libc::STDIN_FILENO;
 use libc::STDOUT_FILENO;
-use pairs::Pair;
-use sigma::Params;
+use lines::answers;
+use lines::held::Held;
+use script::Name;
 
-mod answers;
-mod calls;
-mod held;
-mod solo;
+// What the lines so far have left: the filter and the pair, the f32 filter, and how many bytes of answers wait.
+struct Left {
+    held: Held,
+    narrow: Filter,
+    used: usize,
+}
 
 // What is held, how many bytes of the line that is being read are there, how many bytes of answers wait, and whether the input goes on.
 struct Run {
     held: Held,
+    narrow: Filter,
     line: usize,
     used: usize,
     going: bool,
 }
 
-// Before the first `new` stands the empty filter, before the first `newpair` the empty pair, and before the first `@w new` the empty f32 filter, as New gives them where it refuses.
 fn start() -> Run {
-    let params = Params {
-        alpha: 0.0,
-        beta: 0.0,
-        kappa: 0.0,
-    };
-    let none = [0.0f64; 1];
-    let a = Filter::new(0, &none, &none, &none, params);
-    let b = Pair::new(0, &none, &none, &none, &none, &none, params);
-    let filter = a.filter;
-    let pair = b.pair;
     Run {
-        held: Held {
-            filter,
-            pair,
-            narrow: replay32::start(),
-            whose: Whose::Alone,
-        },
+        held: lines::start(),
+        narrow: lines32::start(),
         line: 0,
         used: 0,
         going: true,
     }
+}
+
+// @w CALL
+fn on_narrow(left: Left, s: &[u8], at: usize, out: &mut [u8]) -> Left {
+    let held = left.held;
+    let turn = lines32::answer(left.narrow, s, at, out, left.used);
+    let narrow = turn.held;
+    Left {
+        held,
+        narrow,
+        used: turn.used,
+    }
+}
+
+// Every other line.
+fn on_wide(left: Left, name: Name, s: &[u8], at: usize, out: &mut [u8]) -> Left {
+    let narrow = left.narrow;
+    let turn = lines::answer(left.held, name, s, at, out, left.used);
+    let held = turn.held;
+    Left {
+        held,
+        narrow,
+        used: turn.used,
+    }
+}
+
+// The answer to the call on a line, up to its comment; none where there is no token.
+fn code(left: Left, s: &[u8], out: &mut [u8]) -> Left {
+    if script::no_token(s, 0) {
+        return left;
+    }
+    let named = script::call_at(s, 0);
+    let at = named.next;
+    let name = named.name;
+    match name {
+        Name::Narrow => on_narrow(left, s, at, out),
+        _ => on_wide(left, name, s, at, out),
+    }
+}
+
+// A line that is too long is no call.
+fn too_long(left: Left, out: &mut [u8]) -> Left {
+    let narrow = left.narrow;
+    let turn = answers::bad(left.held, out, left.used);
+    let held = turn.held;
+    Left {
+        held,
+        narrow,
+        used: turn.used,
+    }
+}
+
+// The answer to the line that the first len bytes of line are.
+fn answer(left: Left, line: &[u8], len: usize, out: &mut [u8]) -> Left {
+    if 16384 < len {
+        return too_long(left, out);
+    }
+    code(left, script::code(script::first(line, len)), out)
 }
 
 // Writes what waits.
@@ -63,12 +108,20 @@ fn make_room(out: &[u8], used: usize) -> usize {
 // Answers a line that has come to its end.
 fn end_line(run: Run, line: &[u8], out: &mut [u8]) -> Run {
     let held = run.held;
-    let turn = calls::answer(held, line, run.line, out, run.used);
-    let held = turn.held;
+    let narrow = run.narrow;
+    let left = Left {
+        held,
+        narrow,
+        used: run.used,
+    };
+    let left = answer(left, line, run.line, out);
+    let held = left.held;
+    let narrow = left.narrow;
     Run {
         held,
+        narrow,
         line: 0,
-        used: make_room(out, turn.used),
+        used: make_room(out, left.used),
         going: run.going,
     }
 }

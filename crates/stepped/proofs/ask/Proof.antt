@@ -16,9 +16,8 @@ use Rattle.floats.specs.Fronts.{front, over}
 use Rattle.floats.proofs.Fronts.{front-over}
 use Rattle.filter.specs.Asked.{firstRefusal}
 use Rattle.filter.specs.Filters.{isStepped, filter, withKept}
-use Rattle.filter.specs.Calls.{Call, stepping, ask, due, fits, asking, askedFor, asks}
+use Rattle.filter.specs.Calls.{Call, stepping, ask, fits, asking, askedFor, asks}
 use Rattle.filter.specs.Calls as calls
-use Rattle.filter.specs.Steps.{answered}
 use Rattle.filter.proofs.Sizes.{and-left, and-right, and-true, product-le}
 use Rattle.filter.proofs.Order.{none, tested-early}
 use Rattle.filter.proofs.Lines.{sized-le, long-le}

@@ -2,17 +2,16 @@
 use Prim.Native.Nat.{_+_, _≤_}
 use mathlib.Core.Path.{_≡_, refl, sym, ap, ap₂, _∙_}
 use mathlib.Core.Bool.{Bool, true, _&&_}
-use mathlib.Core.List.{_∷_, _++_}
 use native.Mathlib.Omega.{arith}
 use borrow.Author.Needs.{needs}
 use borrow.Author.Tests.{leb-true}
 use denote.Ref.{now}
 use lib.Ieee.{binary64}
-use Rattle.filter.specs.Asked.{inRange, within, every}
-use Rattle.filter.specs.Filters.{isCorrectingStepped, seen}
-use Rattle.filter.specs.Calls.{Call, stepping, image-correction, sized, named, due, fits, asks}
+use Rattle.filter.specs.Asked.{inRange}
+use Rattle.filter.specs.Filters.{isCorrectingStepped}
+use Rattle.filter.specs.Calls.{Call, stepping, image-correction, sized, due, fits, asks}
 use Rattle.filter.specs.Steps.{answered}
-use Rattle.filter.proofs.Sizes.{and-left, and-right, and-true, range-le, every-append}
+use Rattle.filter.proofs.Sizes.{and-left, and-right, and-true, range-le}
 use Rattle.filter.proofs.Order.{tested}
 use Rattle.filter.proofs.Lines.{sized-le, long-le}
 use Rattle.filter.proofs.Taken.{Told, turned-away, all-passed, finished}

@@ -7,7 +7,7 @@ use denote.Ref.{now}
 use native.Mathlib.Numerals.{add-one}
 use native.Mathlib.Omega.{arith}
 use borrow.Author.Needs.{needs}
-use lib.ListN.{length, getD, set, drop, length-drop}
+use lib.ListN.{length, set, drop, length-drop}
 use lib.Seq.{getD-drop, paste, paste-zero, paste-suc, length-paste}
 use Rattle.stepped.proofs.kept.copy.Statement.{statement}
 use Rattle.stepped.proofs.kept.copy.Tie as tie

@@ -1,4 +1,4 @@
-// The calls: each is read whole from its line, tokens after the name, then run; a line that is no call in this form is answered `bad` and changes nothing. At f32, made from crates/replay by ./narrow.py: edit there.
+// The calls: each is read whole from its line, tokens after the name, then run; a line that is no call in this form is answered `bad` and changes nothing. At f32, made from crates/lines by ./narrow.py: edit there.
 use crate::answers;
 use crate::answers::Turn;
 use crate::solo;

@@ -1,4 +1,4 @@
-// The calls on one filter that a line picks by its name, by what they are lent. At f32, made from crates/replay by ./narrow.py: edit there.
+// The calls on one filter that a line picks by its name, by what they are lent. At f32, made from crates/lines by ./narrow.py: edit there.
 ghost use mathlib.Core.Path.{_≡_};
 use filter32::Answer;
 use filter32::Filter;

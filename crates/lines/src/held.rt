@@ -1,4 +1,4 @@
-// What the calls of a script are on, the current filter, the current pair and the current f32 filter, and each call on the filter or on a side.
+// What the calls of a script are on, the current filter and the current pair, and each call on the filter or on a side.
 ghost use mathlib.Core.Path.{_≡_};
 use crate::solo;
 use angles::Kind;
@@ -17,7 +17,6 @@ use sigma::Params;
 pub struct Held {
     pub filter: Filter,
     pub pair: Pair,
-    pub narrow: filter32::Filter,
     pub whose: Whose,
 }
 
@@ -35,22 +34,20 @@ pub struct Done {
 
 // Another's call is next.
 pub fn turned(held: Held, whose: Whose) -> Held
-    ensures { λ r. ⌜ r ≡ record { filter = held .filter; pair = held .pair; narrow = held .narrow; whose = whose } ⌝ }
+    ensures { λ r. ⌜ r ≡ record { filter = held .filter; pair = held .pair; whose = whose } ⌝ }
 {
     let filter = held.filter;
     let pair = held.pair;
-    let narrow = held.narrow;
     Held {
         filter,
         pair,
-        narrow,
         whose,
     }
 }
 
-// A call on one of the three leaves the others.
+// A call on one of the two leaves the other.
 pub fn alone(held: Held, a: Answer) -> Done
-    ensures { λ r. ⌜ r ≡ record { held = record { filter = a .filter; pair = held .pair; narrow = held .narrow; whose = held .whose }; refusal = a .refusal } ⌝ }
+    ensures { λ r. ⌜ r ≡ record { held = record { filter = a .filter; pair = held .pair; whose = held .whose }; refusal = a .refusal } ⌝ }
 {
     let mut held = held;
     let filter = a.filter;
@@ -60,7 +57,7 @@ pub fn alone(held: Held, a: Answer) -> Done
 }
 
 pub fn paired(held: Held, a: PairAnswer) -> Done
-    ensures { λ r. ⌜ r ≡ record { held = record { filter = held .filter; pair = a .pair; narrow = held .narrow; whose = held .whose }; refusal = a .refusal } ⌝ }
+    ensures { λ r. ⌜ r ≡ record { held = record { filter = held .filter; pair = a .pair; whose = held .whose }; refusal = a .refusal } ⌝ }
 {
     let mut held = held;
     let pair = a.pair;
@@ -69,15 +66,7 @@ pub fn paired(held: Held, a: PairAnswer) -> Done
     Done { held, refusal }
 }
 
-pub fn narrowed(held: Held, narrow: filter32::Filter) -> Held
-    ensures { λ r. ⌜ r ≡ record { filter = held .filter; pair = held .pair; narrow = narrow; whose = held .whose } ⌝ }
-{
-    let mut held = held;
-    held.narrow = narrow;
-    held
-}
-
-// A reading leaves all.
+// A reading leaves both.
 fn read(held: Held, refusal: Verdict) -> Done
     ensures { λ r. ⌜ r ≡ record { held = held; refusal = refusal } ⌝ }
 {

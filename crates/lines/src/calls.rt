@@ -433,37 +433,13 @@ fn on_side(held: Held, side: Side, s: &[u8], at: usize, out: &mut [u8], used: us
     )
 }
 
-// @w CALL
-fn narrow(held: Held, s: &[u8], at: usize, out: &mut [u8], used: usize) -> Turn {
-    let turn = replay32::answer(held.narrow, s, at, out, used);
-    Turn {
-        held: held::narrowed(held, turn.held),
-        used: turn.used,
-    }
-}
-
-// The answer to the call on a line, up to its comment; none where there is no token.
-fn code(held: Held, s: &[u8], out: &mut [u8], used: usize) -> Turn {
-    if script::no_token(s, 0) {
-        return Turn { held, used };
-    }
-    let named = script::call_at(s, 0);
-    let at = named.next;
-    let name = named.name;
+// A call on the filter or on the pair. Each line is the filter's unless it names another.
+pub fn code(name: Name, held: Held, s: &[u8], at: usize, out: &mut [u8], used: usize) -> Turn {
+    let held = held::turned(held, Whose::Alone);
     match name {
         Name::NewPair => new_pair(held, s, at, out, used),
         Name::First => on_side(held, Side::First, s, at, out, used),
         Name::Second => on_side(held, Side::Second, s, at, out, used),
-        Name::Narrow => narrow(held, s, at, out, used),
         _ => own(name, held, s, at, out, used),
     }
-}
-
-// The answer to the line that the first len bytes of line are; one that is too long is no call. Each line is the filter's unless it names another.
-pub fn answer(held: Held, line: &[u8], len: usize, out: &mut [u8], used: usize) -> Turn {
-    let held = held::turned(held, Whose::Alone);
-    if 16384 < len {
-        return answers::bad(held, out, used);
-    }
-    code(held, script::code(script::first(line, len)), out, used)
 }

@@ -1,10 +1,10 @@
--- `replay::calls::lend` is safe and ends: the part that is lent lies in the buffer. Assumes nothing. At f32, made from crates/replay by ./narrow.py: edit there.
+-- `lines::calls::lend` is safe and ends: the part that is lent lies in the buffer. Assumes nothing. At f32, made from crates/lines by ./narrow.py: edit there.
 use borrow.Author.Needs.{needs}
 use mathlib.Core.Path.{sym}
 use native.Mathlib.Omega.{arith}
 use lib.Seq.{length-take-le}
-use Rattle.replay32.proofs.calls.lend.Statement.{statement}
-use Rattle.replay32.proofs.calls.lend.Tie as tie
+use Rattle.lines32.proofs.calls.lend.Statement.{statement}
+use Rattle.lines32.proofs.calls.lend.Tie as tie
 
 slice-aggregate-with-buffer : tie.Need-slice-aggregate-with-buffer
 slice-aggregate-with-buffer c = sym (length-take-le _ _ (omega (arith, c .before .marked .ensures .0, c .before .before .before .before .if1 .left)))

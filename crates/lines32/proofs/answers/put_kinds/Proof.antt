@@ -1,10 +1,10 @@
--- `replay::answers::put_kinds` is safe and ends: a call keeps the length of the bytes, and the index is tested. Assumes nothing. At f32, made from crates/replay by ./narrow.py: edit there.
+-- `lines::answers::put_kinds` is safe and ends: a call keeps the length of the bytes, and the index is tested. Assumes nothing. At f32, made from crates/lines by ./narrow.py: edit there.
 use Prim.Native.Nat.{_-_}
 use mathlib.Core.Path.{_≡_, refl}
 use native.Mathlib.Omega.{arith}
 use lib.ListN.{length}
-use Rattle.replay32.proofs.answers.put_kinds.Statement.{statement}
-use Rattle.replay32.proofs.answers.put_kinds.Tie as tie
+use Rattle.lines32.proofs.answers.put_kinds.Statement.{statement}
+use Rattle.lines32.proofs.answers.put_kinds.Tie as tie
 
 abbrev Inv-loop : tie.InvT-loop
 Inv-loop out₀ used n kinds at₀ i₀ out at i = length out ≡ length out₀

@@ -1,4 +1,4 @@
-// The answers, line by line, put after the bytes of out that are used. Each hands back how many are used then, and what is held where the call is on it. At f32, made from crates/replay by ./narrow.py: edit there.
+// The answers, line by line, put after the bytes of out that are used. Each hands back how many are used then, and what is held where the call is on it. At f32, made from crates/lines by ./narrow.py: edit there.
 ghost use mathlib.Core.Path.{_≡_};
 use angles32::Kind;
 use angles32::Residual;
