@@ -22,7 +22,7 @@ SHARED = {
     'filter': ['lib::Stage', 'lib::StaleRead', 'lib::checks', 'new::sooner'],
     'words': ['lib::Word', 'lib::digit', 'lib::is_between'],
     'script': [
-        'lib::counts', 'lib::names', 'lib::text', 'numbers::SizeRead', 'numbers::size_at', 'numbers::ListRead',
+        'lib::counts', 'lib::hex', 'lib::names', 'lib::text', 'numbers::SizeRead', 'numbers::size_at', 'numbers::ListRead',
         'write::put', 'write::less', 'write::first', 'write::gather', 'write::put_decimal', 'write::put_verdict', 'write::put_bit', 'write::put_stage', 'write::put_way',
     ],
 }
@@ -31,8 +31,8 @@ LEFT = {
     'root': ['lib::is_nearest_root', 'lib::product', 'lib::high_part', 'lib::guessed_root', 'lib::nearest_root'],
     'correction': ['lib::flat'],
     'filter': ['closes::close_correction_flat', 'tests::is_plain', 'tests::all_plain', 'lib::Kept', 'drawn::nothing_kept'],
-    'lines': ['lib::lib', 'lib::held', 'calls::new_pair', 'calls::kinds_of', 'calls::on_side', 'calls::code',
-               'calls::image_correction', 'calls::observed_of', 'calls::stepped', 'answers::image_numbers', 'answers::put_progress', 'answers::put_kept'],
+    'lines': ['lib::lib', 'lib::held', 'lib::saved', 'solo::with_measurement', 'solo::with_nothing', 'calls::PairLists', 'calls::PairAt', 'calls::pair_at', 'calls::new_pair', 'calls::kinds_of', 'calls::on_side', 'calls::code',
+               'calls::image_correction', 'calls::observed_of', 'calls::stepped', 'answers::bytes', 'answers::image_numbers', 'answers::put_progress', 'answers::put_kept'],
 }
 # a field that f32 lacks, with the lines that make it and fill it in: its constant stands in wideT alone
 LACKED = {'filter': ['kept']}
@@ -106,15 +106,15 @@ SAID = {
     'filter/tests.rt': [('// ---- 10 and 6\n', '// ---- 6\n')],
     'filter/measurement.rt': [("takes its place among them, in the order of the refusals: whether it fits (3), whether the kinds that have to be plain are (10), whether its kinds pass (6).", "takes its place among them, in the order of the refusals: whether it fits (3), whether its kinds pass (6); `plain` is the test of 10, which no close at f32 asks.")],
     'script/numbers.rt': [('// Sizes, numbers, lists and kinds, each', '// Numbers, lists and kinds, each')],
-    'lines/calls.rt': [(', imagep LIST', ''), (', ask BUF', ''), (', sopenp, sopenc, sclosep:', ':')],
-    'lines/solo.rt': [(', imagep:', ':'), (', ask:', ':')],
+    'lines/calls.rt': [('new, load, point', 'new, point'), (', imagep LIST', ''), (', ask BUF', ''), (', sopenp, sopenc, sclosep:', ':')],
+    'lines/solo.rt': [(', imagep:', ':'), (', openc, ask.', ', openc.')],
     'filter/new.rt': [('Each part is made by itself, and several tracks may be put on one sheet.', 'Each part is made by itself.')],
 }
 # where the words that a made proof takes in stand
 HOMES = {w: ('angles', 'proofs.Places') for w in ('kind-at', 'kinds-set', 'kinds-long')}
 # in lines: at f32 the filter is all that is held and its answer all that a call has left, and there is no side, no flat close and no stepped call
 HELD = [
-    (r'^ *Name::(?:Ask|Image\w+|\w+Stepped)\b.* => (?:\{\n.*\n *\}|.*)\n', ''), (r'\bstepped\(name, held, s, at, out, used\)', 'answers::bad(held, out, used)'), (r'observed_of\(name, ', 'script::list_at('), (r'^ *let at = put_kept\(.*\n', ''),
+    (r'^ *Name::(?:Ask|Image\w+|\w+Stepped|Save|Load)\b.* => (?:\{\n.*\n *\}|.*)\n', ''), (r'\bstepped\(name, held, s, at, out, used\)', 'answers::bad(held, out, used)'), (r'observed_of\(name, ', 'script::list_at('), (r'closing_at\(name(?:: Name)?, ', 'closing_at('), (r'^ *let at = put_kept\(.*\n', ''),
     ('use crate::held;', 'use crate::solo;'), ('use crate::held::Held;', 'use filter::Filter;'), ('use crate::held::Done;', 'use filter::Answer;'), (r'\bHeld\b', 'Filter'), (r'\bDone\b', 'Answer'),
     (r'\ba( ?)\.held\b', r'a\1.filter'), (r'held::shown\(held\)', 'held'), (r'held::alone\(held, (.*)\);', r'\1;'), (r'held::with_measurement\(name, held, ', 'held.close_correction('),
     (r'held::with_', 'solo::with_'), (r'held::(\w+)\(held(?:, )?', r'held.\1('), (r', closef [^\n]*', ''), (' or on a side of the pair: the same lines', ''),
@@ -133,7 +133,7 @@ NUMBERS = {
     },
     'script': {
         '16 hex digits': '8 hex digits', 'end - start != 16': 'end - start != 8', 'float_of(b': 'float_of(b as u32', '2^52': '2^23', '0x4330_0000_0000_0000 + i as u64': '0x4b00_0000 + i as u32', 'bits_of(x), 16': 'bits_of(x) as u64, 8',
-        '(bytes and tokens, sizes, numbers, lists and kinds, the call that a line names)': '(numbers, lists and kinds)',
+        '(bytes and tokens, sizes, numbers, lists and kinds, records in hex, the call that a line names)': '(numbers, lists and kinds)',
     },
 }
 FN = re.compile(r'^(?P<head> *(?:pub )?fn \w+\((?P<params>[^{]*?)\)(?: -> (?P<result>[^\n{]+))?\n)(?P<contract>(?: +(?:requires|ensures) \{.*\}\n)+)', re.M)

@@ -1,7 +1,7 @@
 #!/usr/bin/env python3
 """damaged.py COMMAND SCRIPT [ROUNDS] [SEED]: damages a script and holds the command that replays it to one answer in form for each call line.
 
-Each round takes a run of the script's lines and flips bytes, cuts, joins, doubles or lengthens lines, puts a side or the f32 filter before them, a stepped call between them, or drops the last newline. The command has to end
+Each round takes a run of the script's lines and flips bytes, cuts, joins, doubles or lengthens lines, puts a side or the f32 filter before them, a stepped call or a record between them, or drops the last newline. The command has to end
 with status 0 and write one line for each line that holds a token, comment stripped, or is longer than 16,384 bytes: `bad`, or what begins with a number and its place (docs/SCRIPT.md).
 Prints how many rounds and lines that were.
 """
@@ -14,7 +14,7 @@ import sys
 LINE = 16384
 BLANKS = b' \t\r'
 # Only a bad number and a pivot have a place that isn't 0.
-ANSWER = re.compile(rb'bad|((0|1|2|3|4|6|9|10) 0|(7|8|5[1-6]) (0|[1-9][0-9]*))( [^ ]+)*')
+ANSWER = re.compile(rb'bad|((0|1|2|3|4|6|9|10|11|12) 0|(7|8|5[1-6]) (0|[1-9][0-9]*))( [^ ]+)*')
 
 
 def is_answered(line):
@@ -79,7 +79,25 @@ def step(lines, rng):
     lines[i:i] = [on + rng.choice(STEPS) for _ in range(rng.randint(1, 3))] if rng.random() < 0.7 else [on + rng.choice(STEPS)] * rng.randint(2, 20)
 
 
-DAMAGES = [flip, flip, flip, replace, replace, cut, cut, join, double, lengthen, address, step, step]
+# Document 01's C9 as a record, and one state with a turn of 180.
+RECORDS = [bytes.fromhex('575001 0000000000000040 0000000000001040 000000000000f03f 000000000000f03f 0000000000000000 0000000000000000' + kind)
+           for kind in ('00 0000000000000000', '01 0000000000806640')]
+
+
+def record(lines, rng):
+    """Saves and loads between two lines, on any filter: with any room, and of a record that has other bytes, is cut, or goes on."""
+    i = rng.randrange(len(lines) + 1)
+    held = bytearray(rng.choice(RECORDS))
+    for _ in range(rng.choice([0, 0, 1, 3])):
+        held[rng.randrange(len(held))] ^= 1 << rng.randrange(8)
+    held = rng.choice([held, held[:rng.randrange(len(held))], held + rng.randbytes(rng.choice([1, 9, 4036, 4037]))])
+    digits = held.hex().encode() or b'-'
+    load = b'load ' + rng.choice([digits, digits, digits.upper(), digits[1:]])
+    save = b'save %d' % rng.choice([0, 59, 60, 61, 1187, 4096, 4097])
+    lines[i:i] = [rng.choice([b'', b'', b'@1 ', b'@2 ', b'@w ']) + line for line in rng.sample([load, save, save], rng.randint(1, 3))]
+
+
+DAMAGES = [flip, flip, flip, replace, replace, cut, cut, join, double, lengthen, address, step, step, record, record]
 
 
 def main():

@@ -1,11 +1,13 @@
-"""Every refusal of every call that can give it, each held against the next one in the order 3, 1, 2, 4, 51 to 56, 10, 6, then 7, 8, 9 as met:
+"""Every refusal of every call that can give it, each held against the next one in the order 3, 1, 2, 12, 4, 11, 51 to 56, 10, 6, then 7, 8, 9 as met:
 of the solo filter, of what a pair has beyond it, then once more on a side of a pair, which answers as the solo filter does, and on the f32 filter,
-which does so too with numbers of its width and has no flat close and no stepped calls.
+which does so too with numbers of its width and has no flat close, no stepped calls and no records; last, records that are read.
 Each number is followed by its place: of the first bad number in its slice for 51 to 56, the row of the pivot for 7 and 8, else 0.
 The answers stand here as they were written by hand from documents 01 and 02; run, it writes them as a script of calls (docs/SCRIPT.md) and its answers:
     refusals.py SCRIPT ANSWERS
 A number with a point, nan, inf, a power 2^K or a name of SIZES becomes the bits of a float, [..] a list with its length in front, and bK what place K of a lent buffer holds before a call.
+lent:K are K lent bytes as they stand before a save, and {..} is a record: its mark where it isn't 57 50 (xHH..), n, numbers, kinds; xHH.. are bytes as they are.
 A dump at f64 that says nothing of steps goes on as one does without them (`without_steps`)."""
+import re
 import sys
 
 sys.dont_write_bytecode = True
@@ -43,6 +45,8 @@ FIRST = [
     ('sclosec 9 [] [] t nan p p p', '3 0'),
     ('sclosef 9 [nan] []', '3 0'),
     ('abandon', '3 0'),
+    ('save 0', '1 0 0 -'),
+    ('save 60', '1 0 60 lent:60'),
     ('readx 0', '1 0 0'),
     ('readp 1', '1 0 1 b0'),
     ('readq 0', '1 0 0'),
@@ -118,6 +122,11 @@ FIRST = [
     ('readq 3', '0 0 3 1.0 b1 b2'),
     ('readpar', '0 0 1.0 0.0 0.0'),
     ('readstale', '0 0 1'),
+    '# a save on a stale filter: 2; what is behind the record stays',
+    ('save 0', '2 0 0 -'),
+    ('save 59', '2 0 59 lent:59'),
+    ('save 60', '0 0 60 {1 2.0 4.0 1.0 1.0 0.0 0.0 p}'),
+    ('save 62', '0 0 62 {1 2.0 4.0 1.0 1.0 0.0 0.0 p xdcdd}'),
     '# opens: 2 before 7; 7; 9 in the points (x + s*L beyond the largest number); 7 before 9',
     ('setp [-4.0]', '0 0'),
     ('openp 2', '2 0 2 b0 b1'),
@@ -161,6 +170,8 @@ FIRST = [
     ('sclosep', '3 0'),
     ('sclosec 9 [] [] p p p p', '3 0'),
     ('sclosef 1 [6.0] [10.0]', '3 0'),
+    ('save 0', '3 0 0 -'),
+    ('save 60', '3 0 60 lent:60'),
     ('readx 1', '0 0 1 2.0'),
     ('readpts 3', '4 0 3 b0 b1 b2'),
     ('readstale', '0 0 1'),
@@ -174,6 +185,10 @@ FIRST = [
     ('dump', '0 0 n 1 x 2.0 P 5.0 Q 1.0 par 1.0 0.0 0.0 kinds p w 0.0 0.5 pts 2.0 4.0 0.0 stale 0 open - dw 0.0 0.0 dpts 0.0 0.0 0.0'),
     ('readpts 3', '0 0 3 2.0 4.0 0.0'),
     ('readstale', '0 0 0'),
+    '# a save on points in use: 2 before 11, 11',
+    ('save 59', '2 0 59 lent:59'),
+    ('save 60', '11 0 60 lent:60'),
+    ('save 61', '11 0 61 lent:61'),
     '# settings: refused, they mark nothing; Q marks nothing; x, P, the parameters and a kind mark stale, the same number too. Points and weights stand',
     ('setx []', '2 0'),
     ('setp [nan]', '52 0'),
@@ -183,11 +198,13 @@ FIRST = [
     ('setq [inf]', '53 0'),
     ('setq [7.0]', '0 0'),
     ('readstale', '0 0 0'),
+    ('save 60', '11 0 60 lent:60'),
     ('setq [1.0]', '0 0'),
     ('dump', '0 0 n 1 x 2.0 P 5.0 Q 1.0 par 1.0 0.0 0.0 kinds p w 0.0 0.5 pts 2.0 4.0 0.0 stale 0 open - dw 0.0 0.0 dpts 0.0 0.0 0.0'),
     ('setx [2.0]', '0 0'),
     ('dump', '0 0 n 1 x 2.0 P 5.0 Q 1.0 par 1.0 0.0 0.0 kinds p w 0.0 0.5 pts 2.0 4.0 0.0 stale 1 open - dw 0.0 0.0 dpts 0.0 0.0 0.0'),
     ('readpts 3', '4 0 3 b0 b1 b2'),
+    ('save 60', '0 0 60 {1 2.0 5.0 1.0 1.0 0.0 0.0 p}'),
     ('setp [4.0]', '0 0'),
     ('openp 3', '0 0 3 2.0 4.0 0.0'),
     ('closep [2.0 4.0 0.0]', '0 0 x 2.0 P 5.0'),
@@ -216,6 +233,8 @@ FIRST = [
     ('closep [2.0 4.0 0.0]', '0 0 x 2.0 P -4.0'),
     ('setq [1.0]', '0 0'),
     ('openc 3', '0 0 3 2.0 4.0 0.0'),
+    ('save 59', '3 0 59 lent:59'),
+    ('save 60', '3 0 60 lent:60'),
     ('closep [2.0 4.0 0.0]', '3 0'),
     ('ask 1', '3 0 1 b0'),
     ('imagep [2.0]', '3 0'),
@@ -443,12 +462,15 @@ STEPS = [
     ('imagep [nan 0.0]', '3 0'),
     ('imagep [0.0 0.0]', '3 0'),
     ('imagec 9 []', '3 0'),
+    ('save 0', '3 0 0 -'),
+    ('save 125', '3 0 125 lent:125'),
     '# asking: 2, which does not count as asked; then the point, twice the same; the rest of the buffer stands. Readings are taken',
     ('ask 1', '2 0 1 b0'),
     ('imagep [0.0 0.0]', '3 0'),
     ('ask 2', '0 0 2 0.0 0.0'),
     ('ask 4', '0 0 4 0.0 0.0 b2 b3'),
     ('ask 1', '2 0 1 b0'),
+    ('save 125', '3 0 125 lent:125'),
     ('readstale', '0 0 1'),
     ('readpts 10', '4 0 10 b0 b1 b2 b3 b4 b5 b6 b7 b8 b9'),
     '# its image: the other sort is 3; 2 before 54; 54 at the place in this image, the first bad number; its point stays asked for. Past what is needed nothing is judged',
@@ -852,12 +874,16 @@ PAIRS = [
     ('@2 setkind 7 t nan', '3 0'),
     ('@1 closef 1 [14.0] [10.0] [6.0 9.0 3.0]', '3 0'),
     ('@2 closep [6.0 7.0 5.0]', '3 0'),
+    ('@1 save 60', '3 0 60 lent:60'),
+    ('@2 save 0', '3 0 0 -'),
     ('@1 setx [2.0]', '3 0'),
     ('@2 setp [1.0]', '3 0'),
     ('@1 dump', '0 0 n 1 x 2.0 P 4.0 Q 1.0 par 1.0 0.0 0.0 kinds p w 0.0 0.5 pts 2.0 4.0 0.0 stale 1 open p dw 0.0 0.5 dpts 2.0 4.0 0.0'),
     ('@2 dump', '0 0 n 1 x 6.0 P 1.0 Q 1.0 par 1.0 0.0 0.0 kinds p w 0.0 0.5 pts 6.0 7.0 5.0 stale 1 open c dw 0.0 0.5 dpts 6.0 7.0 5.0'),
     '# side 1 abandoned, the correction of side 2 alone makes the sheet wait',
     ('@1 abandon', '0 0'),
+    ('@1 save 59', '2 0 59 lent:59'),
+    ('@1 save 60', '0 0 60 {1 2.0 4.0 1.0 1.0 0.0 0.0 p}'),
     ('@1 setq []', '3 0'),
     ('@1 setpar 1.0 0.0 -1.0', '3 0'),
     ('@1 setkind 7 t nan', '3 0'),
@@ -876,6 +902,8 @@ PAIRS = [
     ('@2 ask 1', '3 0 1 b0'),
     ('@2 imagep [6.0]', '3 0'),
     ('@2 setp [1.0]', '0 0'),
+    ('@1 save 60', '3 0 60 lent:60'),
+    ('@2 save 60', '0 0 60 {1 7.0 1.0 1.0 1.0 0.0 0.0 p}'),
     ('@1 ask 1', '0 0 1 2.0'),
     ('@2 sopenc', '0 0'),
     ('@2 imagec 1 [6.0]', '3 0'),
@@ -910,6 +938,8 @@ PAIRS = [
     ('@2 point 1 0 [2.0 4.0 0.0]', 'bad'),
     ('@1 new 1 [2.0] [4.0] [1.0] 1.0 0.0 0.0', 'bad'),
     ('@2 newpair 1 [2.0] [4.0] [6.0] [1.0] [1.0] 1.0 0.0 0.0', 'bad'),
+    ('@1 load -', 'bad'),
+    ('@2 load {1 2.0 4.0 1.0 1.0 0.0 0.0 p}', 'bad'),
     ('newpair 1 [2.0] [4.0] [6.0] [1.0] 1.0 0.0 0.0', 'bad'),
     ('@1 dump', '0 0 n 1 x 2.0 P 4.0 Q 1.0 par 1.0 0.0 0.0 kinds p w 0.0 0.5 pts 2.0 4.0 0.0 stale 1 open - dw 0.0 0.0 dpts 0.0 0.0 0.0'),
     ('@2 dump', '0 0 n 1 x 7.0 P 0.75 Q 1.0 par 1.0 0.0 0.0 kinds p w 0.0 0.5 pts 6.0 7.0 5.0 stale 1 open - dw 0.0 0.0 dpts 0.0 0.0 0.0'),
@@ -942,7 +972,7 @@ SIDE = [
 
 
 # What the f32 filter has not got.
-WIDE = ('closef', 'sopenp', 'sopenc', 'ask', 'imagep', 'imagec', 'sclosep', 'sclosec', 'sclosef')
+WIDE = ('closef', 'sopenp', 'sopenc', 'ask', 'imagep', 'imagec', 'sclosep', 'sclosec', 'sclosef', 'save', 'load')
 
 
 def on_narrow(calls):
@@ -954,7 +984,7 @@ def on_narrow(calls):
 
 # Request A6; numbers are f32s in these lines and their answers.
 NARROW = [
-    '# all calls of the solo filter above but the flat closes and the stepped calls once more on the f32 filter, from the empty one on; the answers are the same, at its width',
+    '# all calls of the solo filter above but the flat closes, the stepped calls and saves once more on the f32 filter, from the empty one on; the answers are the same, at its width',
     *on_narrow(FIRST + TURN + VALUES + PLACES),
     '# no call: what the f32 filter has not got, a call of nobody, two at once, and numbers that are not 8 digits long; nothing changes',
     ('@w closef 1 [6.0] [10.0] [2.0 5.0 -1.0]', 'bad'),
@@ -966,6 +996,9 @@ NARROW = [
     ('@w sclosep', 'bad'),
     ('@w sclosec 1 [3.0] [12.0] p p p p', 'bad'),
     ('@w sclosef 1 [3.0] [12.0]', 'bad'),
+    ('@w save 60', 'bad'),
+    ('@w load -', 'bad'),
+    ('@w load 575001', 'bad'),
     ('@w newpair 1 [2.0] [4.0] [6.0] [1.0] [1.0] 1.0 0.0 0.0', 'bad'),
     ('@w', 'bad'),
     ('@wdump', 'bad'),
@@ -990,7 +1023,113 @@ OTHERS = [
 ]
 
 
+# Request A8: a record that is read makes the solo filter, as New does. C9's is {1 2.0 4.0 1.0 1.0 0.0 0.0 p}.
+RECORDS = [
+    '# under three bytes: 2, whatever they are; a bad n: 1, before 2 and 12; any other cut record: 2, before 12, 51, 56 and 6. Refused, it gives the empty filter',
+    ('load -', '2 0'),
+    ('dump', EMPTY),
+    ('load 57', '2 0'),
+    ('load 5750', '2 0'),
+    ('load 0009', '2 0'),
+    ('load 575000', '1 0'),
+    ('load 575009', '1 0'),
+    ('load 000009', '1 0'),
+    ('load 5750ff', '1 0'),
+    ('load {0 nan 4.0 1.0 1.0 0.0 0.0 p}', '1 0'),
+    ('load {x5057 9 2.0 4.0 1.0 1.0 0.0 -1.0 p}', '1 0'),
+    ('load 000001', '2 0'),
+    ('load 575001', '2 0'),
+    ('load 575008', '2 0'),
+    ('load {1 2.0 4.0 1.0 1.0 0.0 0.0}', '2 0'),
+    ('load {1 2.0 4.0 1.0 1.0 0.0 0.0 x0000000000000000}', '2 0'),
+    ('load {x5057 1 nan 4.0 1.0 1.0 0.0 -1.0 x0200000000000000}', '2 0'),
+    ('load {1 2.0 4.0 1.0 1.0 nan 0.0 x01}', '2 0'),
+    ('load {2 2.0 4.0 1.0 1.0 0.0 0.0 p}', '2 0'),
+    ('load {2 2.0 2.0 4.0 0.0 0.0 4.0 1.0 0.0 0.0 1.0 1.0 0.0 0.0 p x0000000000000000}', '2 0'),
+    '# 12: the mark, a kind byte, a plain state\'s h, also -0; before 51, 52, 53, 56 and 6',
+    ('load {x5751 1 2.0 4.0 1.0 1.0 0.0 0.0 p}', '12 0'),
+    ('load {x5057 1 nan 4.0 1.0 1.0 0.0 0.0 p}', '12 0'),
+    ('load {x0050 1 2.0 inf 1.0 1.0 0.0 0.0 p}', '12 0'),
+    ('load {x5700 1 2.0 4.0 1.0 1.0 0.0 -1.0 p}', '12 0'),
+    ('load {1 2.0 4.0 1.0 1.0 0.0 0.0 x02 0.0}', '12 0'),
+    ('load {1 2.0 4.0 nan 1.0 0.0 0.0 xff 180.0}', '12 0'),
+    ('load {1 2.0 4.0 1.0 1.0 0.0 -1.0 x81 180.0}', '12 0'),
+    ('load {1 2.0 4.0 1.0 1.0 0.0 0.0 x00 -0.0}', '12 0'),
+    ('load {1 2.0 4.0 1.0 nan 0.0 0.0 x00 180.0}', '12 0'),
+    ('load {1 2.0 4.0 1.0 1.0 0.0 -1.0 x000100000000000000}', '12 0'),
+    ('load {2 nan 2.0 4.0 0.0 0.0 4.0 1.0 0.0 0.0 1.0 1.0 0.0 0.0 p x00 nan}', '12 0'),
+    '# the numbers as New searches them, the half-turns behind the parameters and at place 0; all of them before 6',
+    ('load {2 2.0 nan inf 0.0 0.0 4.0 nan 0.0 0.0 1.0 nan 0.0 0.0 p t nan}', '51 1'),
+    ('load {2 2.0 2.0 4.0 0.0 inf nan nan 0.0 0.0 1.0 1.0 0.0 -2.0 p p}', '52 2'),
+    ('load {2 2.0 2.0 4.0 0.0 0.0 4.0 1.0 0.0 0.0 -inf nan 0.0 0.0 p t 0.0}', '53 3'),
+    ('load {2 2.0 2.0 4.0 0.0 0.0 4.0 1.0 0.0 0.0 1.0 nan inf 0.0 p t nan}', '56 0'),
+    ('load {2 2.0 2.0 4.0 0.0 0.0 4.0 1.0 0.0 0.0 1.0 1.0 nan 0.0 t 0.0 t nan}', '56 1'),
+    ('load {2 2.0 2.0 4.0 0.0 0.0 4.0 1.0 0.0 0.0 1.0 1.0 0.0 inf p p}', '56 2'),
+    ('load {2 2.0 2.0 4.0 0.0 0.0 4.0 1.0 0.0 0.0 1.0 1.0 0.0 -2.0 t 0.0 t nan}', '56 0'),
+    ('load {2 2.0 2.0 4.0 0.0 0.0 4.0 1.0 0.0 0.0 1.0 1.0 0.0 0.0 t -inf p}', '56 0'),
+    '# 6: N = 0; a turn whose h is 0 of either sign, below 0, or twice it not finite',
+    ('load {1 2.0 4.0 1.0 1.0 0.0 -1.0 p}', '6 0'),
+    ('load {1 2.0 4.0 1.0 0.0 0.0 0.0 t 180.0}', '6 0'),
+    ('load {1 2.0 4.0 1.0 1.0 0.0 0.0 t 0.0}', '6 0'),
+    ('load {1 2.0 4.0 1.0 1.0 0.0 0.0 t -0.0}', '6 0'),
+    ('load {1 2.0 4.0 1.0 1.0 0.0 0.0 t -180.0}', '6 0'),
+    ('load {2 2.0 2.0 4.0 0.0 0.0 4.0 1.0 0.0 0.0 1.0 1.0 0.0 0.0 t 180.0 t BIG}', '6 0'),
+    ('dump', EMPTY),
+    ('save 60', '1 0 60 lent:60'),
+    ('openp 3', '1 0 3 b0 b1 b2'),
+    '# what is read is stale, with its kinds, and nothing is drawn; numbers past the record are not read. A P without a factor is read, and refused when it is drawn from',
+    ('load {1 2.0 4.0 1.0 1.0 0.0 0.0 t 180.0}', '0 0'),
+    ('dump', '0 0 n 1 x 2.0 P 4.0 Q 1.0 par 1.0 0.0 0.0 kinds t 180.0 w 0.0 0.0 pts 0.0 0.0 0.0 stale 1 open - dw 0.0 0.0 dpts 0.0 0.0 0.0'),
+    ('load {1 2.0 -4.0 1.0 1.0 0.0 0.0 p nan xff}', '0 0'),
+    ('save 61', '0 0 61 {1 2.0 -4.0 1.0 1.0 0.0 0.0 p xdc}'),
+    ('openp 3', '7 0 3 b0 b1 b2'),
+    '# a read filter with a call open is another filter after the next one; C9',
+    ('load {1 2.0 4.0 1.0 1.0 0.0 0.0 p}', '0 0'),
+    ('openp 3', '0 0 3 2.0 4.0 0.0'),
+    ('load {1 2.0 4.0 1.0 1.0 0.0 0.0 p}', '0 0'),
+    ('closep [2.0 4.0 0.0]', '3 0'),
+    ('openp 3', '0 0 3 2.0 4.0 0.0'),
+    ('closep [2.0 4.0 0.0]', '0 0 x 2.0 P 5.0'),
+    ('readpts 3', '0 0 3 2.0 4.0 0.0'),
+    '# eight states: 1,187 bytes',
+    ('load {8' + ' 1.0' * 8 + ' 0.0' * 128 + ' 1.0 2.0 0.0' + ' p' * 7 + ' t 2.0}', '0 0'),
+    ('save 1186', '2 0 1186 lent:1186'),
+    ('save 1187', '0 0 1187 {8' + ' 1.0' * 8 + ' 0.0' * 128 + ' 1.0 2.0 0.0' + ' p' * 7 + ' t 2.0}'),
+    '# no call, and nothing changes; sides are as they were',
+    ('load', 'bad'),
+    ('load 5', 'bad'),
+    ('load 57500', 'bad'),
+    ('load 575g', 'bad'),
+    ('load 57 50 01', 'bad'),
+    ('load - -', 'bad'),
+    ('save', 'bad'),
+    ('save 4097', 'bad'),
+    ('save 60 60', 'bad'),
+    ('readstale', '0 0 1'),
+    ('@1 dump', SIDE_AFTER),
+]
+
+
+def record(tokens):
+    """The bytes of a record, of which the mark may be left out."""
+    if tokens[0][0] != 'x':
+        tokens = ['x5750'] + tokens
+    return ''.join(map(in_record, tokens))
+
+
+def in_record(t):
+    if t[0] == 'x':
+        return t[1:]
+    if t in 'pt':
+        return '00' * 9 if t == 'p' else '01'
+    if t.isdigit():
+        return f'{int(t):02x}'
+    return bytes.fromhex(token(t, 16))[::-1].hex()  # little-endian
+
+
 def token(t, digits):
+    if t.startswith('lent:'):
+        return bytes((0xA0 + i) % 256 for i in range(int(t[5:]))).hex()
     if t[0] == 'b' and t[1:].isdigit():
         return f'{LENT[digits] + int(t[1:]):0{digits}x}'
     sign, t = ('-', t[1:]) if t[0] == '-' else ('', t)
@@ -1003,13 +1142,17 @@ def token(t, digits):
 
 
 def written(line, digits):
-    """The line with its lists counted and its numbers as bits."""
-    out, rest = [], line.replace('[', ' [ ').replace(']', ' ] ').split()
+    """The line with its lists counted, its records as bytes and its numbers as bits."""
+    out, rest = [], re.sub(r'([][{}])', r' \1 ', line).split()
     while rest:
         t = rest.pop(0)
         if t == '[':
             end = rest.index(']')
             out += [str(end)] + [token(u, digits) for u in rest[:end]]
+            rest = rest[end + 1:]
+        elif t == '{':
+            end = rest.index('}')
+            out.append(record(rest[:end]))
             rest = rest[end + 1:]
         else:
             out.append(token(t, digits))
@@ -1025,7 +1168,7 @@ def without_steps(answer):
 
 if __name__ == '__main__':
     with open(sys.argv[1], 'w') as script, open(sys.argv[2], 'w') as answers:
-        for calls, digits in ((CALLS + PAIRS + SIDE, 16), (NARROW, 8), (OTHERS, 16)):
+        for calls, digits in ((CALLS + PAIRS + SIDE, 16), (NARROW, 8), (OTHERS + RECORDS, 16)):
             for call in calls:
                 if isinstance(call, str):
                     script.write(call + '\n')

@@ -1,26 +1,31 @@
 //! What scripts should meet. On the solo filter and on the f32 filter: every number that a call can give, every call in every stage, every step that can stop it,
 //! what its place can be told among (of New of a pair too), every setting on stale points and on points in use, every size. On a pair: every number,
 //! every change of its sheet through either side with whatever points and open calls, and every other call on a side with whatever its partner has open.
+//! Of records: what each number can show, every size, and whose record it was.
 
 use crate::pair::Side;
-use crate::places::{self, AFTER_PARAM, AFTER_PLAIN, NO_M, OTHER_M, SECOND, SEVERAL, SPOTS};
+use crate::places::{
+    self, AFTER_PARAM, AFTER_PLAIN, BY_ONE, CUT, FULL, HALF_TURN, LONGER, NO_KIND, NO_M, NO_MARK, NO_N, OTHERS, OTHER_M, OWN, PARAMS,
+    PLAIN_H, PLAIN_ZERO, SECOND, SEVERAL, SIDES, SPOTS, TURN,
+};
 use crate::script::{
     before, is_wide, named, on_points, through, with_partner, On, Table, BOTH_OPEN, IN_USE, OWN_OPEN, OWN_STEPPED, PARTNER_OPEN,
-    PARTNER_STEPPED, SETTERS, SHEET, STALE,
+    PARTNER_STEPPED, RECORDS, SETTERS, SHEET, STALE,
 };
 use crate::stages::{Stage, OPENS, STEPPED};
 
 /// The calls that make a filter or a pair and those on values, with the numbers that they can give in a script.
-const APART: [(&str, &[u8]); 5] = [
+const APART: [(&str, &[u8]); 6] = [
     ("new", &[0, 1, 2, 51, 52, 53, 56, 6]),
     ("newpair", &[0, 1, 2, 51, 52, 53, 56, 6]),
+    ("load", &[0, 1, 2, 12, 51, 52, 53, 56, 6]),
     ("point", &[0, 1, 2]),
     ("wrap", &[0, 56, 6]),
     ("root", &[0, 56]),
 ];
 
 /// The calls on a filter, be it a side. (Opening never gives 6; on the empty filter abandon, closes, asking and images give 3.)
-const ON_FILTER: [(&str, &[u8]); 26] = [
+const ON_FILTER: [(&str, &[u8]); 27] = [
     ("setx", &[0, 1, 2, 3, 51]),
     ("setp", &[0, 1, 2, 3, 52]),
     ("setq", &[0, 1, 2, 3, 53]),
@@ -40,6 +45,7 @@ const ON_FILTER: [(&str, &[u8]); 26] = [
     ("sclosep", &[0, 3, 9]),
     ("sclosec", &[0, 1, 2, 3, 53, 55, 56, 6, 8, 9]),
     ("sclosef", &[0, 1, 2, 3, 53, 55, 8, 9, 10]),
+    ("save", &[0, 1, 2, 3, 11]),
     ("readx", &[0, 1, 2]),
     ("readp", &[0, 1, 2]),
     ("readq", &[0, 1, 2]),
@@ -55,7 +61,7 @@ pub const EVERYONE: [On; 3] = [On::Solo, On::Narrow, On::Side(Side::One)];
 /// The filters that are no side. What is to be met of their calls is the same.
 pub const ALONE: [On; 2] = [On::Solo, On::Narrow];
 
-/// Whether there is such a call: the f32 filter has no flat close and no steps (request A6), and of the calls that are on no filter a pair has its New alone.
+/// Whether there is such a call: the f32 filter has no flat close, no steps and no records, and of the calls that are on no filter a pair has its New alone.
 pub fn has(on: On, call: &str) -> bool {
     match on {
         On::Solo => call != "newpair",
@@ -127,9 +133,10 @@ const CORRECTION: [(u8, &str); 11] = [
 ];
 
 /// The slices that a call searches for bad numbers, by their numbers and in that order; but those of one number.
-const SEARCHED: [(&str, &[u8]); 13] = [
+const SEARCHED: [(&str, &[u8]); 14] = [
     ("new", &[51, 52, 53, 56]),
     ("newpair", &[51, 52, 51, 52, 53, 56]),
+    ("load", &[51, 52, 53, 56, 56]),
     ("setx", &[51]),
     ("setp", &[52]),
     ("setq", &[53]),
@@ -173,8 +180,29 @@ pub const ORDER: [(&str, &[u8]); 5] = [
     ("sclosef", &[3, 1, 2, 53, 55, 10]),
 ];
 
-/// What can have to wait where a stepped call gives 3, 1 or 2, and what can be wrong with its m.
+/// What an answer of a save or a load can show besides its search: in words, and which numbers can have to wait for it.
+pub const RECORDED: [(&str, u8, &[&str], &[u8]); 9] = [
+    ("save", 3, &[], &[2, 11]),
+    ("save", 1, &[], &[2]),
+    ("save", 2, &[BY_ONE], &[11]),
+    ("save", 0, &[FULL, LONGER], &[]),
+    ("load", 2, &[NO_N, CUT], &[12, 51, 52, 53, 56, 6]),
+    ("load", 1, &[], &[2, 12]),
+    ("load", 12, &[NO_MARK[0], NO_MARK[1], NO_KIND, PLAIN_H, PLAIN_ZERO], &[51, 52, 53, 56, 6]),
+    ("load", 6, &[PARAMS, HALF_TURN], &[]),
+    ("load", 0, &[FULL, LONGER, TURN, OWN, SIDES[0], SIDES[1], OTHERS], &[]),
+];
+
+/// The stages that a side can't be saved in: those in which its call is open.
+pub fn unsaved() -> impl Iterator<Item = Stage> {
+    Stage::all().filter(|stage| !stage.fits("save"))
+}
+
+/// What can have to wait where a stepped call gives 3, 1 or 2, and what can be wrong with its m; what records show.
 pub fn waiting(call: &str, number: u8) -> Vec<String> {
+    if let Some((_, _, words, later)) = RECORDED.iter().find(|(other, at, ..)| *other == call && *at == number) {
+        return words.iter().map(|word| word.to_string()).chain(later.iter().copied().map(places::before)).collect();
+    }
     let order = ORDER.iter().find(|(stepped, _)| *stepped == call).map_or(&[][..], |(_, order)| *order);
     let later = order.iter().skip_while(|other| **other != number).skip(1).map(|later| places::before(*later));
     let sizes = [NO_M, OTHER_M].iter().filter(|_| number == 1 && order.contains(&1)).map(|word| word.to_string());
@@ -189,21 +217,25 @@ pub fn searches(call: &str, number: u8) -> Vec<String> {
     if later.contains(&number) {
         words.push(SECOND.into());
     }
-    if number == 56 && with_kinds(call) {
-        words.extend([AFTER_PLAIN.into(), AFTER_PARAM.into()]);
+    match call {
+        _ if number != 56 => {}
+        "load" => words.extend([AFTER_PARAM.into(), PARAMS.into()]),
+        _ if with_kinds(call) => words.extend([AFTER_PLAIN.into(), AFTER_PARAM.into()]),
+        _ => {}
     }
     words.extend((51..=56).filter(|other| later.contains(other)).map(places::before));
     match call {
         "closef" | "sclosef" => words.push(places::before(10)),
+        "load" => words.push(places::before(6)),
         "new" | "newpair" | "closec" | "sclosec" if number != 56 => words.push(places::before(6)),
         _ => {}
     }
     words
 }
 
-/// The slices that can be longer than a call needs: all but the parameters. The kinds are four, of which a close needs m.
+/// The slices that can be longer than a call needs: all but the parameters, and those of a record. The kinds are four, of which a close needs m.
 pub fn with_rest(call: &str, number: u8) -> bool {
-    number != 56 || with_kinds(call)
+    call != "load" && number != 56 || with_kinds(call)
 }
 
 /// The closes that are given the kinds of a measurement.
@@ -283,8 +315,8 @@ pub fn faulty_changes(table: &Table, call: &str) -> Vec<(String, u64)> {
     refused.into_iter().chain(first).collect()
 }
 
-/// What of requests A5 and A7 was not met by refused calls: what a search can show, rows, what had to wait.
-fn place_holes(places: &Table, on: On, stepping: bool) -> Vec<String> {
+/// What of requests A5, A7 and A8 was not met: what a search can show, rows, what had to wait, and what records show.
+fn place_holes(places: &Table, on: On, leads: Leads) -> Vec<String> {
     let mut wanted = Vec::new();
     for (call, number) in slices_on(on) {
         wanted.extend(searches(call, number).into_iter().map(|word| (call, number, word)));
@@ -297,7 +329,10 @@ fn place_holes(places: &Table, on: On, stepping: bool) -> Vec<String> {
             wanted.extend(waiting(call, number).into_iter().map(|word| (call, number, word)));
         }
     }
-    wanted.retain(|(call, ..)| has(on, call) && is_stepping(call) == stepping);
+    for (call, number, ..) in RECORDED {
+        wanted.extend(waiting(call, number).into_iter().map(|word| (call, number, word)));
+    }
+    wanted.retain(|(call, ..)| has(on, call) && leads_to(call) == leads);
     unmet(places, on, wanted)
 }
 
@@ -318,9 +353,20 @@ fn unmet(places: &Table, on: On, wanted: Vec<(&str, u8, String)>) -> Vec<String>
     unmet.map(|(call, number, word)| format!("{call}: {number} {word}")).collect()
 }
 
-/// Whether a call comes about in stepped calls that are open; their opens come about wherever others do.
-fn is_stepping(call: &str) -> bool {
-    STEPPED.contains(&call) && !call.starts_with("sopen")
+/// In what a call comes about: stepped calls that are open, records, or others. Stepped opens come about wherever others do.
+#[derive(Clone, Copy, PartialEq)]
+enum Leads {
+    Stepping,
+    Records,
+    Others,
+}
+
+fn leads_to(call: &str) -> Leads {
+    match call {
+        _ if RECORDS.contains(&call) => Leads::Records,
+        _ if STEPPED.contains(&call) && !call.starts_with("sopen") => Leads::Stepping,
+        _ => Leads::Others,
+    }
 }
 
 /// The numbers that were not met, of calls like this.
@@ -343,6 +389,12 @@ fn stage_holes(table: &Table, on: On, stepping: bool) -> Vec<String> {
     let all = all.filter(|(call, stage)| (stage.open.is_stepped() || STEPPED.contains(call)) == stepping);
     let unmet = all.filter(|(call, stage)| in_stage(table, on, call, *stage) == Some(0));
     unmet.map(|(call, stage)| format!("{} with {}", named(on, call), stage.name())).collect()
+}
+
+/// The sizes that no record was read with.
+fn load_holes(table: &Table, on: On) -> Vec<String> {
+    let sizes = (1..=8).map(|n| format!("n={n}")).filter(|size| has(on, "load") && count_with(table, "load", 0, size) == 0);
+    sizes.map(|size| format!("load accepted with {size}")).collect()
 }
 
 /// What was not met of the settings and sizes of a filter that is no side.
@@ -387,12 +439,13 @@ fn side_holes(table: &Table) -> Vec<String> {
 }
 
 /// What was not met of one of those on whom calls are made, by what leads to it: refused calls, steps that stop, rounds as a user has them,
-/// stepped calls with all that doesn't fit on the way.
+/// stepped calls with all that doesn't fit on the way, records.
 pub struct Holes {
     pub refusals: Vec<String>,
     pub steps: Vec<String>,
     pub rounds: Vec<String>,
     pub stepping: Vec<String>,
+    pub records: Vec<String>,
 }
 
 /// What was not met by the two tables of a reader: of the solo filter, of the f32 filter, of pairs.
@@ -400,15 +453,17 @@ pub fn holes(table: &Table, places: &Table) -> [Holes; 3] {
     EVERYONE.map(|on| {
         let of_steps = |number: u8| matches!(number, 7..=9);
         let (steps, rounds, stages) = match on {
-            On::Side(_) => (vec![], side_holes(table), vec![]),
+            On::Side(_) => (vec![], side_holes(table), unmet(places, on, unsaved().map(|stage| ("save", 3, stage.name())).collect())),
             _ => (step_holes(table, on), [stage_holes(table, on, false), round_holes(table, on)].concat(), stage_holes(table, on, true)),
         };
-        let faces = |stepping| number_holes(table, on, |call, number| !of_steps(number) && is_stepping(call) == stepping);
+        let faces = |leads| number_holes(table, on, |call, number| !of_steps(number) && leads_to(call) == leads);
+        let shown = |leads| [faces(leads), place_holes(places, on, leads)].concat();
         Holes {
-            refusals: [faces(false), place_holes(places, on, false)].concat(),
+            refusals: shown(Leads::Others),
             steps: [number_holes(table, on, |_, number| of_steps(number)), steps].concat(),
             rounds: [rounds, past_holes(places, on)].concat(),
-            stepping: [faces(true), place_holes(places, on, true), stages].concat(),
+            stepping: [shown(Leads::Stepping), stages].concat(),
+            records: [shown(Leads::Records), load_holes(table, on)].concat(),
         }
     })
 }
@@ -416,5 +471,5 @@ pub fn holes(table: &Table, places: &Table) -> [Holes; 3] {
 /// All that was not met.
 pub fn not_met(table: &Table, places: &Table) -> Vec<String> {
     let all = holes(table, places).into_iter();
-    all.flat_map(|holes| [holes.refusals, holes.steps, holes.rounds, holes.stepping].concat()).collect()
+    all.flat_map(|holes| [holes.refusals, holes.steps, holes.rounds, holes.stepping, holes.records].concat()).collect()
 }

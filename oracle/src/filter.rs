@@ -45,7 +45,7 @@ impl From<Refusal> for Trouble {
     }
 }
 
-/// Refused where this holds; the callers keep the order 3, 1, 2, 4, 51 to 56, 10, 6.
+/// Refused where this holds; the callers keep the order 3, 1, 2, 12, 4, 11, 51 to 56, 10, 6.
 pub(crate) fn refuse_if(holds: bool, refusal: Refusal) -> Result<(), Refusal> {
     if holds {
         Err(refusal)
@@ -55,7 +55,7 @@ pub(crate) fn refuse_if(holds: bool, refusal: Refusal) -> Result<(), Refusal> {
 }
 
 /// Refused at the first number that isn't finite. Lent are the numbers that a call needs of a slice, and no more.
-fn search<T: Float>(slice: Slice, numbers: &[T]) -> Result<(), Refusal> {
+pub(crate) fn search<T: Float>(slice: Slice, numbers: &[T]) -> Result<(), Refusal> {
     match numbers.iter().position(|number| !number.is_finite()) {
         None => Ok(()),
         Some(place) => Err(Refusal::Number(slice, place)),
@@ -77,7 +77,7 @@ pub fn list_length(n: usize) -> usize {
 }
 
 /// A size of states as a usize, if it is one; nothing is multiplied before.
-fn states(n: u64) -> Result<usize, Refusal> {
+pub(crate) fn states(n: u64) -> Result<usize, Refusal> {
     refuse_if(!(1..=8).contains(&n), Refusal::Size)?;
     Ok(n as usize)
 }

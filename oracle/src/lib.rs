@@ -30,6 +30,7 @@ pub mod kinds;
 pub mod pair;
 pub mod places;
 pub mod published;
+pub mod record;
 pub mod refusal;
 pub mod script;
 pub mod stages;

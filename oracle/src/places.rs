@@ -1,15 +1,16 @@
-//! What the place in an answer (request A5) was told among, and what had to wait for the answer of a stepped call (A7). It goes into a table of what was met;
-//! no answer comes from here.
+//! What the place in an answer (request A5) was told among, and what had to wait for the answer of a stepped call (A7) or of a record (A8).
+//! It goes into a table of what was met; no answer comes from here.
 
 use crate::float::Float;
 use crate::kinds::{is_half_turn, Kind};
+use crate::record::{kind_of, parts, record_length, Record, MARK};
 use crate::refusal::Slice;
 use crate::steps::{all_finite, Params, Weights};
 
 /// Where in its slice the first bad number stood.
 pub const SPOTS: [&str; 3] = ["first", "between", "last"];
 
-/// It wasn't the only one in its slice; its slice was the second of its number, as x and P of a pair's second side are.
+/// It wasn't the only one in its slice; its slice was the second of its number, as x and P of a pair's second side are and the half-turns of a record.
 pub const SEVERAL: &str = "several";
 pub const SECOND: &str = "second";
 
@@ -21,7 +22,30 @@ pub const AFTER_PARAM: &str = "after one that fails 6";
 pub const NO_M: &str = "no m";
 pub const OTHER_M: &str = "another m";
 
-/// Something had to wait: a slice that is searched later, 10 or 6, and in a stepped call 1 or 2.
+/// How a record was too short: there was no n, or less than its n asks for. The lent bytes were one too few.
+pub const NO_N: &str = "under three bytes";
+pub const CUT: &str = "cut";
+pub const BY_ONE: &str = "by one byte";
+
+/// Why bytes were no record: one byte of the mark or the other, each by itself, a kind byte that is neither 0 nor 1, a plain state's h, which may be a zero with a sign.
+pub const NO_MARK: [&str; 2] = ["first mark byte", "second mark byte"];
+pub const NO_KIND: &str = "kind byte";
+pub const PLAIN_H: &str = "plain with h";
+pub const PLAIN_ZERO: &str = "plain with -0";
+
+/// What 6 refused in a record, or would have if no half-turn were bad.
+pub const PARAMS: &str = "parameters";
+pub const HALF_TURN: &str = "half-turn";
+
+/// What was written or read: with a turn, to the last byte, with bytes behind it. Whose record was read: that of the solo filter as it stood, of a side, or of nobody.
+pub const TURN: &str = "with a turn";
+pub const FULL: &str = "to the last byte";
+pub const LONGER: &str = "in a longer buffer";
+pub const OWN: &str = "of the filter";
+pub const SIDES: [&str; 2] = ["of side 1", "of side 2"];
+pub const OTHERS: &str = "of nobody";
+
+/// Something had to wait: a slice that is searched later, 10 or 6, and in a stepped call or a record what comes before the search.
 pub fn before(number: u8) -> String {
     format!("before {number}")
 }
@@ -49,15 +73,18 @@ impl<T: Float> Lent<T> {
 }
 
 /// What a call searches: its slices in that order, the kinds of its measurements, and what it would be refused by once they are searched.
-/// Of a stepped call also what is wrong before that: its m, and whether something lent is short.
+/// Of a stepped call and of a record also the numbers of what is wrong before that, and what else an answer with some number shows.
 #[derive(Default)]
 pub struct Search<T> {
     slices: Vec<Lent<T>>,
     kinds: Vec<Kind<T>>,
     after: Option<u8>,
-    size: Option<&'static str>,
-    short: bool,
+    early: Vec<u8>,
+    words: Vec<(u8, &'static str)>,
 }
+
+/// The refusals that come before the search, in their order; but 4, which is no matter of records or steps.
+const EARLY: [u8; 5] = [3, 1, 2, 12, 11];
 
 impl<T: Float> Search<T> {
     pub fn of(slice: Slice, numbers: &[T], needed: usize) -> Search<T> {
@@ -65,7 +92,7 @@ impl<T: Float> Search<T> {
     }
 
     fn and(mut self, slice: Slice, numbers: &[T], needed: usize) -> Search<T> {
-        self.short |= numbers.len() < needed;
+        self.early.extend((numbers.len() < needed).then_some(2));
         self.slices.push(Lent { slice, numbers: numbers.to_vec(), needed: needed.min(numbers.len()) });
         self
     }
@@ -97,18 +124,35 @@ impl<T: Float> Search<T> {
 
     /// Asking is lent a buffer and searches nothing.
     pub fn of_ask(n: usize, length: u64) -> Search<T> {
-        Search { short: length < n as u64, ..Search::default() }
+        Search { early: (length < n as u64).then_some(2).into_iter().collect(), ..Search::default() }
+    }
+
+    /// Saving is lent a buffer and searches nothing.
+    pub fn of_save(n: usize, stale: bool, length: u64) -> Search<T> {
+        let (length, needed) = (length as usize, record_length(n));
+        let early = [(2, length < needed), (11, !stale)];
+        let early = early.into_iter().filter(|(_, wrong)| *wrong).map(|(number, _)| number).collect();
+        let word = if length > needed { LONGER } else { FULL };
+        let words = [(0, word)].into_iter().chain((length + 1 == needed).then_some((2, BY_ONE))).collect();
+        Search { early, words, ..Search::default() }
+    }
+
+    fn with_m(mut self, wrong: Option<&'static str>) -> Search<T> {
+        self.early.extend(wrong.map(|_| 1));
+        self.words.extend(wrong.map(|word| (1, word)));
+        self
     }
 
     /// An image's in a correction whose first image has named this m; 0 before it.
     pub fn of_image(m: u64, first: usize, image: &[T]) -> Search<T> {
-        let (m, size) = judged(m, first);
-        Search { size, ..Search::of(Slice::Points, image, m) }
+        let (m, wrong) = judged(m, first);
+        Search::of(Slice::Points, image, m).with_m(wrong)
     }
 
     pub fn of_stepped_flat_close(m: u64, first: usize, z: &[T], r: &[T], turn: bool) -> Search<T> {
-        let (m, size) = judged(m, first);
-        Search { size, after: turn.then_some(10), ..Search::of(Slice::Noise, r, m * m).and(Slice::Measurement, z, m) }
+        let (m, wrong) = judged(m, first);
+        let search = Search::of(Slice::Noise, r, m * m).and(Slice::Measurement, z, m).with_m(wrong);
+        Search { after: turn.then_some(10), ..search }
     }
 
     pub fn of_stepped_close(m: u64, first: usize, z: &[T], r: &[T], kinds: &[Kind<T>; 4]) -> Search<T> {
@@ -120,22 +164,28 @@ impl<T: Float> Search<T> {
         match number {
             0 => {
                 let judged = |lent: &&Lent<T>| all_finite(&lent.numbers[lent.needed..]);
-                self.slices.iter().filter(|lent| !judged(lent)).map(|lent| past(lent.slice.number())).collect()
+                let past = self.slices.iter().filter(|lent| !judged(lent)).map(|lent| past(lent.slice.number()));
+                past.chain(self.words_of(0)).collect()
             }
             7 | 8 => vec![row(place)],
-            51..=56 => self.told(place),
-            1..=3 => self.waiting(number),
-            _ => vec![],
+            51..=56 => self.told(place).into_iter().chain(self.words_of(number)).collect(),
+            6 => self.words_of(6).collect(),
+            _ => self.waiting(number),
         }
     }
 
-    /// Behind 3, 1 or 2: all that comes later in this order.
+    fn words_of(&self, number: u8) -> impl Iterator<Item = String> + '_ {
+        self.words.iter().filter(move |(of, _)| *of == number).map(|(_, word)| word.to_string())
+    }
+
+    /// Behind what comes before the search: all that comes later in the order.
     fn waiting(&self, number: u8) -> Vec<String> {
-        let size = self.size.filter(|_| number == 1).map(str::to_string);
-        let early = [(1, self.size.is_some() && number == 3), (2, self.short && number != 2)];
-        let early = early.into_iter().filter(|(_, waits)| *waits).map(|(number, _)| number);
+        let Some(at) = EARLY.iter().position(|early| *early == number) else {
+            return vec![];
+        };
+        let early = EARLY[at + 1..].iter().copied().filter(|later| self.early.contains(later));
         let searched = self.slices.iter().filter(|lent| lent.bad() > 0).map(|lent| lent.slice.number());
-        size.into_iter().chain(early.chain(searched).chain(self.after).map(before)).collect()
+        self.words_of(number).chain(early.chain(searched).chain(self.after).map(before)).collect()
     }
 
     fn told(&self, place: usize) -> Vec<String> {
@@ -151,7 +201,8 @@ impl<T: Float> Search<T> {
         let again = self.slices[..at].iter().any(|lent| lent.slice == own.slice);
         let in_front = if own.slice == Slice::Lone { self.kinds.get(..place).unwrap_or_default() } else { &[] };
         let words = [
-            (true, spot),
+            // A record's half-turns have no place but 0.
+            (!again || own.slice != Slice::Lone, spot),
             (own.bad() > 1, SEVERAL),
             (again, SECOND),
             (in_front.contains(&Kind::Plain), AFTER_PLAIN),
@@ -160,6 +211,67 @@ impl<T: Float> Search<T> {
         let words = words.into_iter().filter(|(holds, _)| *holds).map(|(_, word)| word.to_string());
         words.chain(bad.map(|(_, later)| later.slice.number()).chain(self.after).map(before)).collect()
     }
+}
+
+impl Search<f64> {
+    /// What is there of a record, completed by what would pass, so that what waits behind a cut shows.
+    pub fn of_load(bytes: &[u8]) -> Search<f64> {
+        let is_wrong = |at: usize| bytes.get(at).is_some_and(|byte| *byte != MARK[at]);
+        let wrong = [is_wrong(0), is_wrong(1)];
+        let mark = wrong != [false; 2];
+        let n = match bytes.get(2) {
+            None => return Search::of_head(&[2], &[(2, NO_N)], mark),
+            Some(n @ 1..=8) => usize::from(*n),
+            Some(_) if bytes.len() < record_length(1) => return Search::of_head(&[1, 2], &[], mark),
+            Some(_) => return Search::of_head(&[1], &[], mark),
+        };
+        let needed = record_length(n);
+        let mut all = plain(n).bytes();
+        let there = bytes.len().min(needed);
+        all[..there].copy_from_slice(&bytes[..there]);
+        let (numbers, kinds) = parts(n, &all);
+        let record = Record::with(n, &numbers, kinds.iter().filter_map(|kind| kind_of(kind)).collect());
+        let (halves, par) = (record.halves(), record.par);
+        let finite = all_finite(&par.numbers());
+        let weightless = finite && !Weights::of(n, par).pass();
+        let bad = halves.iter().position(|h| !h.is_finite());
+        let in_front = bad.map_or(&[][..], |bad| &halves[..bad]);
+        let signed = |kind: &[u8]| kind[1..] == (-0.0_f64).to_bits().to_le_bytes();
+        let unplain = |kind: &[u8]| kind[0] == 0 && kind_of(kind).is_none();
+        let causes = [
+            (12, NO_MARK[0], wrong == [true, false]),
+            (12, NO_MARK[1], wrong == [false, true]),
+            (12, NO_KIND, kinds.iter().any(|kind| kind[0] > 1)),
+            (12, PLAIN_H, kinds.iter().any(|kind| unplain(kind) && !signed(kind))),
+            (12, PLAIN_ZERO, kinds.iter().any(|kind| unplain(kind) && signed(kind))),
+            (2, CUT, there < needed),
+            (56, PARAMS, weightless && bad.is_some()),
+            (56, AFTER_PARAM, finite && in_front.iter().any(|h| !is_half_turn(*h))),
+            (6, PARAMS, weightless),
+            (6, HALF_TURN, fails(&record.kinds)),
+            (0, TURN, !halves.is_empty()),
+            (0, if bytes.len() > needed { LONGER } else { FULL }, true),
+        ];
+        let causes = causes.into_iter().filter(|(.., holds)| *holds);
+        let search = Search::of_new(n, &[(&record.x, &record.p)], &record.q, par).and(Slice::Lone, &halves, halves.len());
+        Search {
+            early: causes.clone().map(|(number, ..)| number).chain(mark.then_some(12)).collect(),
+            after: causes.clone().find(|(number, ..)| *number == 6).map(|_| 6),
+            words: causes.map(|(number, word, _)| (number, word)).collect(),
+            ..search
+        }
+    }
+
+    /// Where there is no n.
+    fn of_head(early: &[u8], words: &[(u8, &'static str)], mark: bool) -> Search<f64> {
+        Search { early: early.iter().copied().chain(mark.then_some(12)).collect(), words: words.to_vec(), ..Search::default() }
+    }
+}
+
+/// A record that passes.
+fn plain(n: usize) -> Record {
+    let (x, p) = (vec![0.0; n], vec![0.0; n * n]);
+    Record { n, x, q: p.clone(), p, par: Params { alpha: 1.0, beta: 0.0, kappa: 0.0 }, kinds: vec![Kind::Plain; n] }
 }
 
 /// The m of a stepped call as it counts for what is needed, and what is wrong with it.

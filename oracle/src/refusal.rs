@@ -33,6 +33,10 @@ pub enum Refusal {
     Short,
     Stage,
     Stale,
+    /// Saved while not stale (request A8).
+    Fresh,
+    /// Bytes that are no record, though they are long enough (A8).
+    Record,
     /// A number that isn't finite: its slice, and the place of the first such number there.
     Number(Slice, usize),
     Kind,
@@ -58,6 +62,8 @@ impl Refusal {
             Refusal::Innov(_) => 8,
             Refusal::Range(_) => 9,
             Refusal::Kind => 10,
+            Refusal::Fresh => 11,
+            Refusal::Record => 12,
         }
     }
 

@@ -6,14 +6,16 @@ use crate::filter::{self, list_length, Filter, Open, Start, Trouble, Way};
 use crate::float::Float;
 use crate::kinds::Kind;
 use crate::pair::{Pair, Side};
-use crate::places::Search;
+use crate::places::{Search, OTHERS, OWN, SIDES};
+use crate::record::Record;
 use crate::refusal::Slice;
 use crate::stages::{Stage, STEPPED};
 use crate::steps::Params;
 
-/// The longest line and the longest list or buffer that are taken.
+/// The longest line and the longest list or buffer that are taken: so many numbers, so many bytes.
 pub const LINE: usize = 16_384;
 pub const LIST: u64 = 512;
+pub const BYTES: u64 = 4096;
 
 /// How often each call gave each number, and beside it the step that refused, the sizes of an accepted close of a filter that is no side,
 /// or how things stood before the call (`Reader::beside`).
@@ -30,9 +32,12 @@ pub const IN_USE: &str = "in use";
 pub const SETTERS: [&str; 5] = ["setx", "setp", "setq", "setpar", "setkind"];
 pub const SHEET: [&str; 3] = ["setq", "setpar", "setkind"];
 
-/// Whether request A6 leaves this call out at f32: the flat close, and all stepped ones.
+/// The calls of request A8.
+pub const RECORDS: [&str; 2] = ["save", "load"];
+
+/// Whether there is no such call at f32: the flat close, all stepped ones, records.
 pub fn is_wide(call: &[u8]) -> bool {
-    call == b"closef" || STEPPED.iter().any(|stepped| stepped.as_bytes() == call)
+    call == b"closef" || STEPPED.iter().chain(&RECORDS).any(|wide| wide.as_bytes() == call)
 }
 
 /// Whose call is open when a sheet change comes, be it a stepped one.
@@ -105,8 +110,8 @@ impl Reader {
         let told = match read {
             Ok(line) => {
                 let told = self.take(&line)?;
-                // Of the others, 1, 2 and 3 of stepped calls alone are asked what had to wait for them.
-                if matches!(told.number, 0 | 7 | 8 | 51..=56) || line.is_stepped() {
+                // The others are asked of stepped calls and of records alone what had to wait for them.
+                if matches!(told.number, 0 | 7 | 8 | 51..=56) || line.has_order() {
                     for word in self.shown(&line, told.number, told.place) {
                         *self.places.entry((told.call.clone(), told.number, word)).or_default() += 1;
                     }
@@ -130,6 +135,15 @@ impl Reader {
                 let made = Pair::new(*n, [Start { x: x1, p: p1 }, Start { x: x2, p: p2 }], q, *par);
                 renewed("newpair", &mut self.pair, made, Pair::empty())
             }
+            Line::Load(bytes) => {
+                let whose = self.whose(bytes);
+                let told = renewed("load", &mut self.filter, Filter::load(bytes), Filter::empty())?;
+                if told.number != 0 {
+                    return Ok(told);
+                }
+                *self.places.entry(("load".into(), 0, whose.into())).or_default() += 1;
+                Ok(Told { more: format!("n={}", self.filter.n), ..told })
+            }
             Line::Side(side, call) => {
                 let beside = self.beside_partner(*side, call.name());
                 let told = match call {
@@ -152,7 +166,24 @@ impl Reader {
             Line::Solo(call) => searched(&self.filter, call).shown(number, place),
             Line::Narrow(call) => searched(&self.narrow, call).shown(number, place),
             Line::NewPair(n, x1, p1, x2, p2, q, par) => Search::of_new(*n as usize, &[(x1, p1), (x2, p2)], q, *par).shown(number, place),
-            Line::Side(side, call) => searched_on(self.pair.side(*side), call).shown(number, place),
+            Line::Load(bytes) => Search::of_load(bytes).shown(number, place),
+            Line::Side(side, call) => {
+                let own = self.pair.side(*side);
+                let mut words = searched_on(own, call).shown(number, place);
+                // The table has what the partner has open.
+                words.extend((call.name() == "save" && number == 3).then(|| Stage::of(own).name()));
+                words
+            }
+        }
+    }
+
+    /// Whose record it is that these bytes begin with, as things stand.
+    fn whose(&self, bytes: &[u8]) -> &'static str {
+        let is_of = |filter: &Filter<f64>| filter.n > 0 && bytes.starts_with(&Record::of(filter).bytes());
+        match Side::BOTH.iter().find(|side| is_of(self.pair.side(**side))) {
+            _ if is_of(&self.filter) => OWN,
+            Some(side) => SIDES[*side as usize],
+            None => OTHERS,
         }
     }
 
@@ -277,6 +308,7 @@ fn searched_on<T: Float>(filter: &Filter<T>, call: &OnFilter<T>) -> Search<T> {
         OnFilter::CloseC(m, z, r, kinds, observed) => Search::of_close(n, *m as usize, z, r, kinds, observed),
         OnFilter::CloseF(m, z, r, observed) => Search::of_flat_close(n, *m as usize, z, r, filter.has_turn(), observed),
         OnFilter::Lent(Lent::Point, length) => Search::of_ask(n, *length),
+        OnFilter::Save(length) => Search::of_save(n, filter.stale, *length),
         OnFilter::ImageP(image) => Search::of(Slice::Points, image, n),
         OnFilter::ImageC(m, image) => Search::of_image(*m, filter.kept.m, image),
         OnFilter::StepCloseC(m, z, r, kinds) => Search::of_stepped_close(*m, filter.kept.m, z, r, kinds),
@@ -342,6 +374,11 @@ fn on_filter<T: Float>(filter: &mut Filter<T>, call: &OnFilter<T>) -> Result<Tol
             let outcome = filter.close_flat_stepped(*m, z, r);
             closed(name, outcome, filter, format!(" m={m}"))
         }
+        OnFilter::Save(length) => {
+            let mut buffer: Vec<u8> = (0..*length).map(|i| (0xa0 + i) as u8).collect();
+            let outcome = filter.save(&mut buffer);
+            told(name, outcome, |_| format!(" {length} {}", hex(&buffer)))
+        }
         OnFilter::ReadPar => told(name, filter.read_params(), |par| bits(&par.unwrap_or_default().numbers())),
         OnFilter::ReadStale => told(name, filter.read_stale(), |stale| format!(" {}", u8::from(stale.unwrap_or(true)))),
         OnFilter::Dump => told(name, Ok(()), |_| format!(" {}{}", dumped(filter), dumped_steps(filter))),
@@ -383,6 +420,14 @@ pub fn bits_of<T: Float>(number: T) -> u64 {
 /// Each number's bits with a blank before it.
 pub fn bits<T: Float>(numbers: &[T]) -> String {
     numbers.iter().map(|number| format!(" {:01$x}", bits_of(*number), T::HEX)).collect()
+}
+
+/// Bytes as a script has them, two digits each.
+pub fn hex(bytes: &[u8]) -> String {
+    match bytes {
+        [] => "-".into(),
+        _ => bytes.iter().map(|byte| format!("{byte:02x}")).collect(),
+    }
 }
 
 fn dumped<T: Float>(filter: &Filter<T>) -> String {
@@ -493,6 +538,8 @@ enum OnFilter<T> {
     StepCloseP,
     StepCloseC(u64, Vec<T>, Vec<T>, [Kind<T>; 4]),
     StepCloseF(u64, Vec<T>, Vec<T>),
+    /// With so many bytes lent.
+    Save(u64),
     ReadPar,
     ReadStale,
     Dump,
@@ -522,6 +569,7 @@ impl<T: Float> OnFilter<T> {
             OnFilter::StepCloseP => "sclosep",
             OnFilter::StepCloseC(..) => "sclosec",
             OnFilter::StepCloseF(..) => "sclosef",
+            OnFilter::Save(_) => "save",
             OnFilter::ReadPar => "readpar",
             OnFilter::ReadStale => "readstale",
             OnFilter::Dump | OnFilter::NarrowDump => "dump",
@@ -543,13 +591,17 @@ enum Line {
     Solo(Call<f64>),
     Narrow(Call<f32>),
     NewPair(u64, Vec<f64>, Vec<f64>, Vec<f64>, Vec<f64>, Vec<f64>, Params<f64>),
+    /// What is read is the solo filter from then on.
+    Load(Vec<u8>),
     Side(Side, OnFilter<f64>),
 }
 
 impl Line {
-    fn is_stepped(&self) -> bool {
+    /// Whether the table tells what had to wait for its answer.
+    fn has_order(&self) -> bool {
         match self {
-            Line::Solo(Call::On(call)) | Line::Side(_, call) => STEPPED.contains(&call.name()),
+            Line::Solo(Call::On(call)) | Line::Side(_, call) => STEPPED.contains(&call.name()) || call.name() == "save",
+            Line::Load(_) => true,
             _ => false,
         }
     }
@@ -560,6 +612,7 @@ fn read(word: &[u8], mut tokens: Tokens) -> Result<Line, Bad> {
     let t = &mut tokens;
     let line = match word {
         b"newpair" => Line::NewPair(t.size()?, t.list()?, t.list()?, t.list()?, t.list()?, t.list()?, t.params()?),
+        b"load" => Line::Load(t.bytes()?),
         b"@1" => Line::Side(Side::One, t.named(Tokens::on_filter)?),
         b"@2" => Line::Side(Side::Two, t.named(Tokens::on_filter)?),
         b"@w" => Line::Narrow(t.named(Tokens::narrow)?),
@@ -597,7 +650,7 @@ impl<'a> Tokens<'a> {
         call(self, word)
     }
 
-    /// A call of the f32 filter, which has no flat close and no steps.
+    /// A call of the f32 filter, which has no flat close, no steps and no records.
     fn narrow(&mut self, word: &[u8]) -> Result<Call<f32>, Bad> {
         match word {
             b"dump" => Ok(Call::On(OnFilter::NarrowDump)),
@@ -641,6 +694,7 @@ impl<'a> Tokens<'a> {
             b"sclosep" => OnFilter::StepCloseP,
             b"sclosec" => OnFilter::StepCloseC(self.size()?, self.list()?, self.list()?, self.kinds()?),
             b"sclosef" => OnFilter::StepCloseF(self.size()?, self.list()?, self.list()?),
+            b"save" => OnFilter::Save(self.size_to(BYTES)?),
             b"readpar" => OnFilter::ReadPar,
             b"readstale" => OnFilter::ReadStale,
             b"dump" => OnFilter::Dump,
@@ -661,13 +715,30 @@ impl<'a> Tokens<'a> {
         Ok(size)
     }
 
-    /// A length of a list or a buffer.
-    fn length(&mut self) -> Result<u64, Bad> {
-        let length = self.size()?;
-        if length > LIST {
+    fn size_to(&mut self, most: u64) -> Result<u64, Bad> {
+        let size = self.size()?;
+        if size > most {
             return Err(Bad);
         }
-        Ok(length)
+        Ok(size)
+    }
+
+    /// A length of a list or a buffer of numbers.
+    fn length(&mut self) -> Result<u64, Bad> {
+        self.size_to(LIST)
+    }
+
+    /// Two hex digits a byte, or `-` for none.
+    fn bytes(&mut self) -> Result<Vec<u8>, Bad> {
+        let token = self.next().ok_or(Bad)?;
+        if token == b"-" {
+            return Ok(vec![]);
+        }
+        if token.len() % 2 != 0 || token.len() as u64 > 2 * BYTES {
+            return Err(Bad);
+        }
+        let digit = |b: u8| (b as char).to_digit(16).ok_or(Bad);
+        token.chunks(2).map(|two| Ok((digit(two[0])? << 4 | digit(two[1])?) as u8)).collect()
     }
 
     /// As many hex digits as the width has.

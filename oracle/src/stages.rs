@@ -94,7 +94,7 @@ impl Stage {
         let all = self.images == Images::All;
         match call {
             "openp" | "openc" | "sopenp" | "sopenc" => self.open == Open::Nothing,
-            _ if call.starts_with("set") => self.open == Open::Nothing,
+            _ if call.starts_with("set") || call == "save" => self.open == Open::Nothing,
             "abandon" => self.open != Open::Nothing,
             "closep" => self.open == Open::Prediction(Way::Whole),
             "closec" | "closef" => self.open == Open::Correction(Way::Whole),

@@ -1,4 +1,4 @@
-//! Document 01's cases, the flat close, settings, pairs, places, the f32 filter and one point at a time of document 02's A1 and A3 to A7 and the examples of docs/SCRIPT.md, held to answers written by hand.
+//! Document 01's cases, the flat close, settings, pairs, places, the f32 filter, one point at a time and records of document 02's A1 and A3 to A8 and the examples of docs/SCRIPT.md, held to answers written by hand.
 
 use oracle::script::Reader;
 
@@ -94,6 +94,43 @@ fn stepped_lines() {
         "@w imagec 1 1 3f800000",
         "@w sclosec 1 1 3f800000 1 3f800000 p p p p",
         "@w sclosef 1 1 3f800000 1 3f800000",
+    ] {
+        assert_eq!(last(line), Some("bad".into()), "{line}");
+    }
+}
+
+/// What is a line of a record.
+#[test]
+fn record_lines() {
+    let last = |line: &str| answers(line).pop();
+    assert_eq!(last("save 2 # on the empty filter"), Some("1 0 2 a0a1".into()));
+    assert_eq!(last("@2\tsave 0"), Some("1 0 0 -".into()));
+    assert_eq!(last("save 4096").map(|answer| answer.len()), Some("1 0 4096 ".len() + 2 * 4096));
+    assert!(last("save 98").is_some_and(|answer| answer.ends_with("fdfeff0001")));
+    assert_eq!(last("load -"), Some("2 0".into()));
+    assert_eq!(last("load 0000Ff"), Some("1 0".into()));
+    assert_eq!(last(&format!("load {}", "57".repeat(4096))), Some("1 0".into()));
+    assert_eq!(last(&format!("load {}", "57".repeat(4097))), Some("bad".into()));
+    for line in [
+        "save",
+        "save -",
+        "save 4097",
+        "save 60 60",
+        "Save 60",
+        "load",
+        "load 5",
+        "load 57500",
+        "load 5g",
+        "load 0x57",
+        "load 57 50 01",
+        "load --",
+        "load - -",
+        "@1 load -",
+        "@2 load 575001",
+        "@1 save",
+        "@w save 60",
+        "@w load -",
+        "@w load 575001",
     ] {
         assert_eq!(last(line), Some("bad".into()), "{line}");
     }

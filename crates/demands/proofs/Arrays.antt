@@ -51,7 +51,7 @@ all-places e h (suc k) t g = all-set (placesOf e k t) k (e k) (all-places e h k 
 
 -- ---- what stands past the places in use
 
-drop-same : (k m : ℕ) (a : Float) → drop k (replicate m a) ≡ replicate (m - k) a
+pub drop-same : {A : Type 0} (k m : ℕ) (a : A) → drop k (replicate m a) ≡ replicate (m - k) a
 drop-same zero m a = let e : m - 0 ≡ m = omega arith in ap (λ (j : ℕ). replicate j a) (sym e)
 drop-same (suc k) zero a = let e : 0 - suc k ≡ 0 = omega arith in ap (λ (j : ℕ). replicate j a) (sym e)
 drop-same (suc k) (suc m) a = let e : suc m - suc k ≡ m - k = omega arith in drop-same k m a ∙ ap (λ (j : ℕ). replicate j a) (sym e)

@@ -1,4 +1,5 @@
 -- Complete contracts of a pair's calls, as Complete.antt has them of the others: a line for each function of `pairs` that can be called from outside. Assumes nothing.
+use Prim.Native.Nat.{ℕ}
 use mathlib.Core.Path.{_≡_, refl, ap}
 use mathlib.Core.List.{List}
 use lib.Ieee.{Float}
@@ -56,6 +57,8 @@ use Rattle.pairs.proofs.Pair.read_params.Kinds as read-params-of
 use Rattle.pairs.proofs.Pair.read_params.Reads as read-params
 use Rattle.pairs.proofs.Pair.read_stale.Kinds as read-stale-of
 use Rattle.pairs.proofs.Pair.read_stale.Reads as read-stale
+use Rattle.pairs.proofs.Pair.save.Kinds as save-of
+use Rattle.pairs.proofs.Pair.save.Reads as save
 
 -- the one lent buffer, after self and the side
 lent : {l m : List Float} → l ≡ m → _≡_ {A = Unit {0} × (Unit {0} × (List Float × Unit {0}))} (tt, (tt, (l, tt))) (tt, (tt, (m, tt)))
@@ -138,3 +141,6 @@ read-params-one κs a z z′ w w′ p q = (by p q, refl)
 
 pub read-stale-one : OneAnswer read-stale-of.ps read-stale-of.r read-stale.Learnt
 read-stale-one κs a z z′ w w′ p q = (by p q, refl)
+
+pub save-one : OneAnswer save-of.ps save-of.r save.Learnt
+save-one κs a z z′ w w′ p q = (by (p .0) (q .0), ap (λ (l : List ℕ). (tt, (tt, (l, tt)))) (by (p .1) (q .1)))

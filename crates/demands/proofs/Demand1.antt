@@ -10,7 +10,7 @@ use lib.ListN.{length, take}
 use lib.Ieee.{Float, Format, add}
 use Rattle.floats.specs.declared.Slice.{Slice}
 use Rattle.floats.specs.declared.Slice.the-variants.{State, Covariance, Noise, Points, Measurement, Lone}
-use Rattle.floats.specs.Refusal.{Refusal, NUMBER, PARAM, SIZE, STAGE, KIND, PIVOT, INNOV, badLone, verdict, taken, Outcome, refusal}
+use Rattle.floats.specs.Refusal.{Refusal, NUMBER, PARAM, SIZE, SHORT, STAGE, KIND, PIVOT, INNOV, badLone, verdict, taken, Outcome, refusal}
 use Rattle.floats.specs.Search.{Input}
 use Rattle.floats.specs.Numbers.{plusZero, zeros, allFinite}
 use Rattle.floats.specs.Fronts.{front, over}
@@ -24,21 +24,22 @@ use Rattle.sigma.specs.declared.Params.{Params}
 use Rattle.sigma.specs.Weights.{scaleOf, w0mOf}
 use Rattle.sigma.specs.Draw.{pointNumbers}
 use Rattle.filter.specs.declared.Filter.{Filter}
-use Rattle.filter.specs.Asked.{Asks, by-params}
+use Rattle.filter.specs.Asked.{of-numbers, by-params, Asks}
 use Rattle.filter.specs.Filters.{isShut, isPredictingStepped, isCorrectingStepped, isStepped, seen}
 use Rattle.filter.specs.Calls.{Call, writing, setting, stepping, closing, closing-stepped, set-kind, open-prediction, open-correction, open-prediction-stepped, open-correction-stepped, ask, image-prediction, image-correction, SteppedClose, close-prediction-stepped, close-correction-stepped, close-correction-flat-stepped, withList, close-prediction, close-correction, close-correction-flat, fits, halves, asKinds, named, asks, plan, weightedFrom, flatFrom}
 use Rattle.filter.specs.Steps.{Reply, Stepped, step, answered, paramsRead, staleRead}
 use Rattle.filter.specs.New.{emptySheet, emptyTrack, empty, Start, from, newAsks, startAsks, newSheet, newTrack, newAnswer}
+use Rattle.filter.specs.Load.{loadAsks, loadAnswer}
 use Rattle.filter.specs.Point.{pointAsks, pointRefusal, pointOf}
-use Rattle.demands.specs.Rows.{Some, NotFinite, NotAbove, Below, OutOfRange, FirstIn, FirstBad, searches, Ascending, BadTurn, FirstBadTurn, IsTurn, IsOpen, IsClose, IsCorrection, IsFlat, Measurable, UnfitTurn, Fails, FirstFails, Cause, Applies, Due, Free, ByStep, Placed, Neither, steppedAsks}
+use Rattle.demands.specs.Rows.{Some, NotFinite, NotAbove, Below, OutOfRange, FirstIn, FirstBad, searches, Ascending, BadTurn, FirstBadTurn, IsTurn, IsOpen, IsClose, IsCorrection, IsFlat, IsSave, Measurable, UnfitTurn, Fails, FirstFails, Cause, Applies, Due, Free, ByStep, Placed, Neither, steppedAsks}
 use Rattle.demands.specs.Listed.{listedAtOpen, listedAtPrediction, listedAtHead, listedAtCorrection}
 use Rattle.demands.specs.Runs.{told}
 use Rattle.demands.specs.Sound.{Sound, Tidy, Reached, Yielded, handedOut, Each}
-use Rattle.demands.proofs.Exactly.{exactly, taken-exactly, new-exactly, new-taken, new-track-exactly, new-track-taken, new-sheet-exactly, new-sheet-taken, point-exactly, point-taken, wrap-exactly, wrap-taken, wrap-refused, root-exactly, root-taken, kind-exactly, kind-taken, one-of, ends-so, refused-unwritten, refused-values, new-refused, new-track-refused, new-sheet-refused, point-refused}
+use Rattle.demands.proofs.Exactly.{exactly, taken-exactly, new-exactly, new-taken, new-track-exactly, new-track-taken, new-sheet-exactly, new-sheet-taken, load-exactly, load-taken, point-exactly, point-taken, wrap-exactly, wrap-taken, wrap-refused, root-exactly, root-taken, kind-exactly, kind-taken, one-of, ends-so, refused-unwritten, refused-values, new-refused, load-refused, new-track-refused, new-sheet-refused, point-refused}
 use Rattle.demands.proofs.Places.{some-bad, one-bad, turn-at, placed-of, placed-so}
 use Rattle.demands.proofs.Pivots.{number-exactly, pivot-by-open, innov-by-correction, range-by-steps, prediction-pivot, correction-opened-pivot, correction-closed-pivot, flat-correction-pivot}
 use Rattle.demands.proofs.Listed.{open-prediction-lists, open-correction-lists, open-prediction-stepped-lists, open-correction-stepped-lists, close-prediction-lists, close-correction-lists, close-correction-flat-lists}
-use Rattle.demands.proofs.Table.{searches-so, ascending, kind-checked, steps-give, stage-exactly, states-first, kind-only, never-stale, never-param}
+use Rattle.demands.proofs.Table.{searches-so, ascending, kind-checked, steps-give, stage-exactly, states-first, kind-only, fresh-only, never-record, never-stale, never-param}
 use Rattle.demands.proofs.Turned.{turned-away-exactly, half-turn-exactly}
 use Rattle.demands.proofs.Sound.{sound, tidy, all-handed-finite}
 use Rattle.demands.proofs.Opening.{opening-never}
@@ -64,8 +65,10 @@ module _ (f : Format) where
   pub new-asks : (n : ℕ) (x p q : List Float) (params : Params) → newAsks n (from x p ∷ []) q params ≡ record {
     fits = true;
     sizes = record { value = n; from = 1; to = 8 } ∷ [];
-    lent = record { slice = x; needs = n } ∷ record { slice = p; needs = n * n } ∷ record { slice = q; needs = n * n } ∷ [];
+    lent = of-numbers x n ∷ of-numbers p (n * n) ∷ of-numbers q (n * n) ∷ [];
+    formed = true;
     stale = false;
+    fresh = false;
     inputs = record { name = State; numbers = take n x } ∷ record { name = Covariance; numbers = take (n * n) p } ∷ record { name = Noise; numbers = take (n * n) q } ∷ record { name = Lone; numbers = params .alpha ∷ params .beta ∷ params .kappa ∷ [] } ∷ [];
     plain = [];
     params = by-params n params ∷ [];
@@ -82,8 +85,10 @@ module _ (f : Format) where
   pub track-asks : (n : ℕ) (x p : List Float) → startAsks n (from x p) ≡ record {
     fits = true;
     sizes = record { value = n; from = 1; to = 8 } ∷ [];
-    lent = record { slice = x; needs = n } ∷ record { slice = p; needs = n * n } ∷ [];
+    lent = of-numbers x n ∷ of-numbers p (n * n) ∷ [];
+    formed = true;
     stale = false;
+    fresh = false;
     inputs = record { name = State; numbers = take n x } ∷ record { name = Covariance; numbers = take (n * n) p } ∷ [];
     plain = [];
     params = [];
@@ -93,8 +98,10 @@ module _ (f : Format) where
   pub sheet-asks : (n : ℕ) (q : List Float) (params : Params) → newAsks n [] q params ≡ record {
     fits = true;
     sizes = record { value = n; from = 1; to = 8 } ∷ [];
-    lent = record { slice = q; needs = n * n } ∷ [];
+    lent = of-numbers q (n * n) ∷ [];
+    formed = true;
     stale = false;
+    fresh = false;
     inputs = record { name = Noise; numbers = take (n * n) q } ∷ record { name = Lone; numbers = params .alpha ∷ params .beta ∷ params .kappa ∷ [] } ∷ [];
     plain = [];
     params = by-params n params ∷ [];
@@ -113,12 +120,21 @@ module _ (f : Format) where
   pub sheet-taken-when : (n : ℕ) (q : List Float) (params : Params) → (newSheet f n q params .refusal ≡ taken) ↔ ((d : Cause) → Applies f (newAsks n [] q params) [] d → ⊥)
   sheet-taken-when = new-sheet-taken f
 
+  -- of load, which gives 2 under three bytes, and from there on goes by the table (what it asks, and what 12 means, in words: Records),
+  pub load-exactly-when : (b : List ℕ) (r : Refusal) → (loadAnswer b f .refusal ≡ verdict r) ↔ (((length b < 3) × (r ≡ SHORT)) ⊎ ((3 ≤ length b) × Due f (loadAsks b) [] r))
+  load-exactly-when = load-exactly f
+
+  pub load-taken-when : (b : List ℕ) → (loadAnswer b f .refusal ≡ taken) ↔ ((3 ≤ length b) × ((d : Cause) → Applies f (loadAsks b) [] d → ⊥))
+  load-taken-when = load-taken f
+
   -- of point k of a lent list, which asks for k up to 2n and for the whole list, and doesn't judge its numbers,
   pub point-asks : (l : List Float) (n k : ℕ) → pointAsks f l n k ≡ record {
     fits = true;
     sizes = record { value = n; from = 1; to = 8 } ∷ record { value = k; from = 0; to = n + n } ∷ [];
-    lent = record { slice = l; needs = (n + n + 1) * n } ∷ [];
+    lent = of-numbers l ((n + n + 1) * n) ∷ [];
+    formed = true;
     stale = false;
+    fresh = false;
     inputs = [];
     plain = [];
     params = [];
@@ -168,7 +184,7 @@ module _ (f : Format) where
   pub values-handed-back : (r : Reply) → (paramsRead r .refusal ≡ r .refusal) × (staleRead r .refusal ≡ r .refusal)
   values-handed-back r = (refl, refl)
 
-  -- New, its parts, point k, the wrap, the root and the check of a kind end so too, with 0 at place 0 or with a refusal's number at its place, each being `refusal` of an outcome.
+  -- New, its parts, load, point k, the wrap, the root and the check of a kind end so too, with 0 at place 0 or with a refusal's number at its place, each being `refusal` of an outcome.
   pub so-do-the-others : {A : Type 0} (o : Outcome A) → (refusal o ≡ taken) ⊎ ((r : Refusal) × (refusal o ≡ verdict r))
   so-do-the-others = one-of
 
@@ -186,6 +202,13 @@ module _ (f : Format) where
   pub kind-when : (s : Filter) (m : ℕ) (z r observed : List Float) → (step f s (closing (close-correction-flat m z r observed)) .reply .refusal ≡ verdict KIND) ↔ (Measurable s m z r observed × Some IsTurn (take (s .sheet .n) (s .sheet .kinds)))
   kind-when = turned-away-exactly f
 
+  -- 11 is given by save alone, and 12 by no call on a filter: load alone asks for bytes that have a form (`formed` is true in all that New, its parts and point k ask).
+  pub fresh-by-save-alone : (s : Filter) (c : Call) → step f s c .reply .refusal .number ≡ 11 → IsSave c
+  fresh-by-save-alone = fresh-only f
+
+  pub no-call-gives-12 : (s : Filter) (c : Call) → step f s c .reply .refusal .number ≢ 12
+  no-call-gives-12 = never-record f
+
   -- The flat close, either way, never gives 4 or 6: stale doesn't stop it, and nothing that it is lent has to pass 6.
   pub stepped-flat-correction-never : (s : Filter) (m : ℕ) (z r : List Float) → let k = step f s (closing-stepped (close-correction-flat-stepped m z r)) .reply .refusal .number in (k ≢ 4) × (k ≢ 6)
   stepped-flat-correction-never s m z r = let c = closing-stepped (close-correction-flat-stepped m z r) in (never-stale f s c refl, never-param f s c refl)
@@ -196,7 +219,7 @@ module _ (f : Format) where
   -- ---- one point at a time (document 02, A7)
 
   -- What the stepped calls ask, s being the filter as seen. The opens what the whole-list ones ask, but for the buffer;
-  pub stepped-open-asks : (s : Filter) → let a : Asks = record { fits = isShut (s .track .stage); sizes = record { value = s .sheet .n; from = 1; to = 8 } ∷ []; lent = []; stale = false; inputs = []; plain = []; params = [] } in
+  pub stepped-open-asks : (s : Filter) → let a : Asks = record { fits = isShut (s .track .stage); sizes = record { value = s .sheet .n; from = 1; to = 8 } ∷ []; lent = []; formed = true; stale = false; fresh = false; inputs = []; plain = []; params = [] } in
       (asks s (setting open-prediction-stepped) ≡ a) × (asks s (setting open-correction-stepped) ≡ a)
   stepped-open-asks s = (refl, refl)
 
@@ -204,8 +227,10 @@ module _ (f : Format) where
   pub ask-asks : (s : Filter) (b : List Float) → asks s (stepping (ask b)) ≡ record {
     fits = isStepped (s .track .stage) && leb (s .track .kept .at) (s .sheet .n + s .sheet .n);
     sizes = record { value = s .sheet .n; from = 1; to = 8 } ∷ [];
-    lent = record { slice = b; needs = s .sheet .n } ∷ [];
+    lent = of-numbers b (s .sheet .n) ∷ [];
+    formed = true;
     stale = false;
+    fresh = false;
     inputs = [];
     plain = [];
     params = [];
@@ -216,8 +241,10 @@ module _ (f : Format) where
   pub image-prediction-asks : (s : Filter) (v : List Float) → asks s (stepping (image-prediction v)) ≡ record {
     fits = isPredictingStepped (s .track .stage) && (leb (s .track .kept .at) (s .sheet .n + s .sheet .n) && s .track .kept .asked);
     sizes = record { value = s .sheet .n; from = 1; to = 8 } ∷ [];
-    lent = record { slice = v; needs = s .sheet .n } ∷ [];
+    lent = of-numbers v (s .sheet .n) ∷ [];
+    formed = true;
     stale = false;
+    fresh = false;
     inputs = record { name = Points; numbers = take (s .sheet .n) v } ∷ [];
     plain = [];
     params = [];
@@ -228,8 +255,10 @@ module _ (f : Format) where
   pub image-correction-asks : (s : Filter) (m : ℕ) (v : List Float) → asks s (stepping (image-correction m v)) ≡ record {
     fits = isCorrectingStepped (s .track .stage) && (leb (s .track .kept .at) (s .sheet .n + s .sheet .n) && s .track .kept .asked);
     sizes = record { value = s .sheet .n; from = 1; to = 8 } ∷ record { value = m; from = 1; to = 4 } ∷ cond (eqb (s .track .kept .m) 0) [] (record { value = m; from = s .track .kept .m; to = s .track .kept .m } ∷ []);
-    lent = record { slice = v; needs = m } ∷ [];
+    lent = of-numbers v m ∷ [];
+    formed = true;
     stale = false;
+    fresh = false;
     inputs = record { name = Points; numbers = take m v } ∷ [];
     plain = [];
     params = [];
@@ -241,7 +270,9 @@ module _ (f : Format) where
     fits = isPredictingStepped (s .track .stage) && not (leb (s .track .kept .at) (s .sheet .n + s .sheet .n));
     sizes = record { value = s .sheet .n; from = 1; to = 8 } ∷ [];
     lent = [];
+    formed = true;
     stale = false;
+    fresh = false;
     inputs = [];
     plain = [];
     params = [];
@@ -252,8 +283,10 @@ module _ (f : Format) where
   pub stepped-correction-asks : (s : Filter) (m : ℕ) (z r : List Float) (kinds : List Kind) → steppedAsks s (close-correction-stepped m z r kinds) ≡ record {
     fits = isCorrectingStepped (s .track .stage) && not (leb (s .track .kept .at) (s .sheet .n + s .sheet .n));
     sizes = record { value = s .sheet .n; from = 1; to = 8 } ∷ named (s .track .kept) m ++ (record { value = m; from = 1; to = 4 } ∷ []);
-    lent = record { slice = z; needs = m } ∷ record { slice = r; needs = m * m } ∷ [];
+    lent = of-numbers z m ∷ of-numbers r (m * m) ∷ [];
+    formed = true;
     stale = false;
+    fresh = false;
     inputs = record { name = Noise; numbers = take (m * m) r } ∷ record { name = Measurement; numbers = take m z } ∷ record { name = Lone; numbers = halves (take m kinds) } ∷ [];
     plain = [];
     params = asKinds (take m kinds);
@@ -263,8 +296,10 @@ module _ (f : Format) where
   pub stepped-flat-correction-asks : (s : Filter) (m : ℕ) (z r : List Float) → steppedAsks s (close-correction-flat-stepped m z r) ≡ record {
     fits = isCorrectingStepped (s .track .stage) && not (leb (s .track .kept .at) (s .sheet .n + s .sheet .n));
     sizes = record { value = s .sheet .n; from = 1; to = 8 } ∷ named (s .track .kept) m ++ (record { value = m; from = 1; to = 4 } ∷ []);
-    lent = record { slice = z; needs = m } ∷ record { slice = r; needs = m * m } ∷ [];
+    lent = of-numbers z m ∷ of-numbers r (m * m) ∷ [];
+    formed = true;
     stale = false;
+    fresh = false;
     inputs = record { name = Noise; numbers = take (m * m) r } ∷ record { name = Measurement; numbers = take m z } ∷ record { name = Lone; numbers = [] } ∷ [];
     plain = take (s .sheet .n) (s .sheet .kinds);
     params = [];
@@ -297,7 +332,7 @@ module _ (f : Format) where
   pub searched-by : (s : Filter) (c : Call) → asks s c .inputs ≡ searches s c
   searched-by = searches-so
 
-  -- That is slice after slice in the order of their numbers, and so does New search (New of a pair takes the second start right after the first: `new-asks` in Pairs);
+  -- That is slice after slice in the order of their numbers, and so does New search (New of a pair takes the second start right after the first: `new-asks` in Pairs; load searches as New does, and then each half-turn by itself: `load-asks` in Records);
   pub searched-in-turn : (s : Filter) (c : Call) → Ascending 50 (asks s c .inputs)
   searched-in-turn s c = rw (searches-so s c) (ascending s c)
 
@@ -305,7 +340,7 @@ module _ (f : Format) where
   new-searched-in-turn n x p q params = (omega arith, (omega arith, (omega arith, (omega arith, tt))))
 
   -- So one of 51 to 56 is given at place i exactly when nothing is refused before the search (`Free`), and that is the slice and the place of the first bad number. (Opens search nothing; on a filter that the demands don't speak of one may give 56 at 0, for an N without a root: `opening-gives-neither` below.)
-  pub number-when : (s : Filter) (c : Call) → (IsOpen c → ⊥) → (t : Slice) (i : ℕ) → (step f s c .reply .refusal ≡ verdict (NUMBER t i)) ↔ (Free f 4 s c × FirstBad t i (searches s c))
+  pub number-when : (s : Filter) (c : Call) → (IsOpen c → ⊥) → (t : Slice) (i : ℕ) → (step f s c .reply .refusal ≡ verdict (NUMBER t i)) ↔ (Free f 6 s c × FirstBad t i (searches s c))
   number-when = number-exactly f
 
   -- The first bad half-turn is told at the index of its own kind, the first that is a turn by a number that isn't finite: a plain one keeps its place. So a weighted close gives 56 at i exactly when a correction is open with the whole list, sizes are in range, the slices are long enough and their numbers finite (`Measurable`), and the first such kind of its first m is that at i.
@@ -324,19 +359,19 @@ module _ (f : Format) where
   innov-by-corrections-alone = innov-by-correction f
 
   -- 7 tells the row of the first bad pivot: the columns before it are right, so their pivots are good and their entries finite (else it would be 9), and it isn't finite or isn't above 0 (`BadPivot`). An open gives it exactly when nothing is refused before its steps and row j of P is that row; at the open of a correction the filter has to be stale, as points are drawn only then;
-  pub pivot-at-open-prediction : (s : Filter) (b : List Float) (j : ℕ) → let c = setting (open-prediction b) in (step f s c .reply .refusal ≡ verdict (PIVOT j)) ↔ (Free f 7 s c × BadPivot f (s .track .p) (s .sheet .n) j)
+  pub pivot-at-open-prediction : (s : Filter) (b : List Float) (j : ℕ) → let c = setting (open-prediction b) in (step f s c .reply .refusal ≡ verdict (PIVOT j)) ↔ (Free f 9 s c × BadPivot f (s .track .p) (s .sheet .n) j)
   pivot-at-open-prediction = prediction-pivot f
 
-  pub pivot-at-open-correction : (s : Filter) (b : List Float) (j : ℕ) → let c = setting (open-correction b) in (step f s c .reply .refusal ≡ verdict (PIVOT j)) ↔ (Free f 7 s c × ((s .track .stale ≡ true) × BadPivot f (s .track .p) (s .sheet .n) j))
+  pub pivot-at-open-correction : (s : Filter) (b : List Float) (j : ℕ) → let c = setting (open-correction b) in (step f s c .reply .refusal ≡ verdict (PIVOT j)) ↔ (Free f 9 s c × ((s .track .stale ≡ true) × BadPivot f (s .track .p) (s .sheet .n) j))
   pivot-at-open-correction = correction-opened-pivot f
 
   -- 8 the same of S, by either close of a correction, once z mean, S, x mean and cross covariance are finite;
   pub pivot-at-correction : (s : Filter) (m : ℕ) (z r : List Float) (kinds : List Kind) (observed : List Float) (j : ℕ) → let c = closing (close-correction m z r kinds observed) in let h = weightedFrom f (seen s) m z r kinds observed in
-      (step f s c .reply .refusal ≡ verdict (INNOV j)) ↔ (Free f 7 s c × ((Some Fails (listedAtHead f h) → ⊥) × BadPivot f (h .s) m j))
+      (step f s c .reply .refusal ≡ verdict (INNOV j)) ↔ (Free f 9 s c × ((Some Fails (listedAtHead f h) → ⊥) × BadPivot f (h .s) m j))
   pivot-at-correction = correction-closed-pivot f
 
   pub pivot-at-flat-correction : (s : Filter) (m : ℕ) (z r observed : List Float) (j : ℕ) → let c = closing (close-correction-flat m z r observed) in let h = flatFrom f (seen s) m z r observed in
-      (step f s c .reply .refusal ≡ verdict (INNOV j)) ↔ (Free f 7 s c × ((Some Fails (listedAtHead f h) → ⊥) × BadPivot f (h .s) m j))
+      (step f s c .reply .refusal ≡ verdict (INNOV j)) ↔ (Free f 9 s c × ((Some Fails (listedAtHead f h) → ⊥) × BadPivot f (h .s) m j))
   pivot-at-flat-correction = flat-correction-pivot f
 
   -- and beside every other number stands place 0, whatever answers.
@@ -388,8 +423,8 @@ module _ (f : Format) where
 
   -- ---- what is refused
 
-  -- A refused call leaves the filter and a lent buffer b as they were (`over .. b` is what the contracts say of b at exit);
-  pub refused-changes-nothing : (s : Filter) (c : Call) → step f s c .reply .refusal .number ≢ 0 → (step f s c .filter ≡ s) × ((b : List Float) → over (step f s c .reply .given) b ≡ b)
+  -- A refused call leaves the filter and a lent buffer b, of numbers or of bytes, as they were (`over .. b` is what the contracts say of b at exit);
+  pub refused-changes-nothing : (s : Filter) (c : Call) → step f s c .reply .refusal .number ≢ 0 → (step f s c .filter ≡ s) × ((b : List Float) → over (step f s c .reply .given) b ≡ b) × ((b : List ℕ) → over (step f s c .reply .bytes) b ≡ b)
   refused-changes-nothing = refused-unwritten f
 
   -- a refused reading of values answers +0, and stale;
@@ -397,7 +432,10 @@ module _ (f : Format) where
       → (paramsRead (step f s c .reply) .params ≡ record { alpha = plusZero; beta = plusZero; kappa = plusZero }) × (staleRead (step f s c .reply) .stale ≡ true)
   refused-reading = refused-values f
 
-  -- a refused New gives the empty filter, a refused part of it that of the empty filter, and a refused point an empty part.
+  -- a refused New and a refused load give the empty filter, a refused part of New that of the empty filter, and a refused point an empty part.
+  pub refused-load : (b : List ℕ) → loadAnswer b f .refusal .number ≢ 0 → loadAnswer b f .filter ≡ empty
+  refused-load = load-refused f
+
   pub refused-new : (n : ℕ) (x p q : List Float) (params : Params) → newAnswer f n x p q params .refusal .number ≢ 0 → newAnswer f n x p q params .filter ≡ empty
   refused-new = new-refused f
 
@@ -420,6 +458,6 @@ module _ (f : Format) where
   pub yielded-is-sound : {s : Filter} → Yielded f s → Sound f s
   yielded-is-sound = sound f
 
-  -- and one that New and calls yield is tidy too: its points and weights are finite with +0 in unused places while stale, scratch is +0 while nothing is open, and nothing is kept but in a stepped call.
+  -- and one that New, load and calls yield is tidy too: its points and weights are finite with +0 in unused places while stale, scratch is +0 while nothing is open, and nothing is kept but in a stepped call.
   pub reached-is-tidy : {s : Filter} → Reached f s → Sound f s × Tidy s
   reached-is-tidy = tidy f

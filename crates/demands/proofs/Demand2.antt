@@ -3,7 +3,7 @@
 use Prim.Native.Nat.{ℕ, zero, suc, _+_, _-_, _*_, _<_, _≤_}
 use mathlib.Core.Path.{_≡_, refl, sym, ap, _∙_}
 use mathlib.Core.Bool.{true, false}
-use mathlib.Core.List.{List}
+use mathlib.Core.List.{List, []}
 use native.Mathlib.Nat.{mul-le-mul}
 use native.Mathlib.Omega.{arith}
 use lib.Dec.{T}
@@ -305,7 +305,7 @@ module _ (f : Format) where
   -- An accepted open leaves the filter as it was, with what it has drawn beside it (`withDrawn` of filter/specs/Filters.antt), and hands out those points (the reply's `stale` says something only where the mark is read):
   module _ (s : Filter) (b : List Float) where
     abbrev Opens : SetCall → Stage → Weighted → Type 0
-    Opens c t d = step f s (setting c) ≡ record { filter = filter (s .sheet) (withDrawn (s .track) t d); reply = record { refusal = taken; given = take (pointNumbers (s .sheet .n)) (d .points); stale = true } }
+    Opens c t d = step f s (setting c) ≡ record { filter = filter (s .sheet) (withDrawn (s .track) t d); reply = record { refusal = taken; given = take (pointNumbers (s .sheet .n)) (d .points); stale = true; bytes = [] } }
 
     -- a prediction, and a correction while stale, the points v that the draw from x and P gives by the parameters, with their weights;
     abbrev Draws : SetCall → Stage → Type 0

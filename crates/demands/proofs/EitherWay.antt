@@ -53,10 +53,10 @@ module _ (f : Format) (s : Filter) where
   observed-moves-on m v e = ap (λ (x : Stepped). x .filter) (observed-taken f s m v e)
 
   -- An image that isn't finite is refused as it is handed in, by 54 at the place of the first bad number in this image, once nothing is refused before the search; and as any refused call it changes nothing, so that the step stays where it was and its point asked for.
-  pub image-not-finite : (v : List Float) (i : ℕ) → let c = stepping (image-prediction v) in Free f 4 s c → FirstIn (take (s .sheet .n) v) i → (step f s c .reply .refusal ≡ verdict (NUMBER Points i)) × (step f s c .filter ≡ s)
+  pub image-not-finite : (v : List Float) (i : ℕ) → let c = stepping (image-prediction v) in Free f 6 s c → FirstIn (take (s .sheet .n) v) i → (step f s c .reply .refusal ≡ verdict (NUMBER Points i)) × (step f s c .filter ≡ s)
   image-not-finite v i h w = bad-image f s (stepping (image-prediction v)) (λ o. elim o [ ]) i h (found w)
 
-  pub observed-not-finite : (m : ℕ) (v : List Float) (i : ℕ) → let c = stepping (image-correction m v) in Free f 4 s c → FirstIn (take m v) i → (step f s c .reply .refusal ≡ verdict (NUMBER Points i)) × (step f s c .filter ≡ s)
+  pub observed-not-finite : (m : ℕ) (v : List Float) (i : ℕ) → let c = stepping (image-correction m v) in Free f 6 s c → FirstIn (take m v) i → (step f s c .reply .refusal ≡ verdict (NUMBER Points i)) × (step f s c .filter ≡ s)
   observed-not-finite m v i h w = bad-image f s (stepping (image-correction m v)) (λ o. elim o [ ]) i h (found w)
 
   -- So between asks and images may stand refused calls (`refused-changes-nothing` in Demand1), asks repeated, and readings, which change nothing:
@@ -146,15 +146,15 @@ module _ (f : Format) (s : Filter) where
           ∙ rounds-to f s (both .drawn) o v a i states im room k h
 
       -- point k, asked for after k rounds, is point k of the list that the whole-list open writes,
-      pub same-points : (k : ℕ) → k ≤ s .sheet .n + s .sheet .n → step f (after k) (stepping (ask (a k))) .reply ≡ record { refusal = taken; given = take (s .sheet .n) (drop (k * s .sheet .n) (step f s (setting (wholeOpen o b)) .reply .given)); stale = true }
+      pub same-points : (k : ℕ) → k ≤ s .sheet .n + s .sheet .n → step f (after k) (stepping (ask (a k))) .reply ≡ record { refusal = taken; given = take (s .sheet .n) (drop (k * s .sheet .n) (step f s (setting (wholeOpen o b)) .reply .given)); stale = true; bytes = [] }
       same-points k h =
           ap (λ (x : Filter). step f x (stepping (ask (a k))) .reply) (reaches k (omega arith))
           ∙ ap (λ (x : Stepped). x .reply) (point-asked s (both .drawn) o v f a i states im room k h)
-          ∙ ap (λ (l : List Float). record { refusal = taken; given = l; stale = true }) (sym (part-same (k * s .sheet .n) (s .sheet .n) (pointNumbers (s .sheet .n)) (both .drawn .points) (part-in (s .sheet .n) (s .sheet .n) k h)))
-          ∙ ap (λ (x : Stepped). record { refusal = taken; given = take (s .sheet .n) (drop (k * s .sheet .n) (x .reply .given)); stale = true }) (sym (both .whole-is))
+          ∙ ap (λ (l : List Float). record { refusal = taken; given = l; stale = true; bytes = [] }) (sym (part-same (k * s .sheet .n) (s .sheet .n) (pointNumbers (s .sheet .n)) (both .drawn .points) (part-in (s .sheet .n) (s .sheet .n) k h)))
+          ∙ ap (λ (x : Stepped). record { refusal = taken; given = take (s .sheet .n) (drop (k * s .sheet .n) (x .reply .given)); stale = true; bytes = [] }) (sym (both .whole-is))
 
       -- and its image is taken;
-      pub images-taken : (k : ℕ) → k ≤ s .sheet .n + s .sheet .n → step f (step f (after k) (stepping (ask (a k))) .filter) (stepping (handing o (i k))) .reply ≡ record { refusal = taken; given = []; stale = true }
+      pub images-taken : (k : ℕ) → k ≤ s .sheet .n + s .sheet .n → step f (step f (after k) (stepping (ask (a k))) .filter) (stepping (handing o (i k))) .reply ≡ record { refusal = taken; given = []; stale = true; bytes = [] }
       images-taken k h =
           ap (λ (x : Filter). step f (step f x (stepping (ask (a k))) .filter) (stepping (handing o (i k))) .reply) (reaches k (omega arith))
           ∙ ap (λ (x : Stepped). step f (x .filter) (stepping (handing o (i k))) .reply) (point-asked s (both .drawn) o v f a i states im room k h)

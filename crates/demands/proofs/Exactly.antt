@@ -6,10 +6,13 @@ use mathlib.Core.Bool.{Bool, true, false, not}
 use mathlib.Core.List.{List, [], _∷_}
 use mathlib.Core.Logic.{_↔_, _≢_, _⊎_, inl, inr, ⊎-elim}
 use native.Mathlib.Omega.{arith}
+use borrow.Author.Tests.{leb-true, leb-false}
+use lib.Dec.{leb}
+use lib.ListN.{length}
 use lib.Ieee.{Float, Format, add}
 use lib.Ieee.Scale.{finite}
 use Rattle.floats.specs.declared.Slice.{Slice}
-use Rattle.floats.specs.Refusal.{Refusal, PARAM, badLone, verdict, taken, Outcome, refused, accepted, refusal, or, unless, onward}
+use Rattle.floats.specs.Refusal.{Refusal, SHORT, PARAM, badLone, verdict, taken, Outcome, refused, accepted, refusal, or, unless, onward}
 use Rattle.floats.specs.Search.{searched}
 use Rattle.floats.specs.Numbers.{plusZero, allFinite}
 use Rattle.floats.specs.Fronts.{over}
@@ -29,8 +32,9 @@ use Rattle.filter.specs.Filters.{seen}
 use Rattle.filter.specs.Calls.{Call, asks, Done, plan}
 use Rattle.filter.specs.Steps.{outcome, stepped, step, paramsOf, paramsRead, staleRead}
 use Rattle.filter.specs.New.{emptySheet, emptyTrack, empty, Start, from, newAsks, startAsks, newSheetOf, newSheet, newTrackOf, newTrack, newOf, newAnswer}
+use Rattle.filter.specs.Load.{filterIn, loadAsks, loadOf, loadAnswer}
 use Rattle.filter.specs.Point.{pointAsks, pointAt, pointRefusal, pointOf}
-use Rattle.demands.specs.Rows.{Some, here, there, NotFinite, NotAbove, Below, OutOfRange, Shorter, IsTurn, BadTurn, UnfitTurn, Unfit, FirstFails, Cause, stage, size, short, stale, kind, param, met, gives, Applies, rank, Due}
+use Rattle.demands.specs.Rows.{Some, here, there, NotFinite, NotAbove, Below, OutOfRange, Shorter, IsTurn, BadTurn, UnfitTurn, Unfit, FirstFails, Cause, stage, size, short, form, stale, fresh, kind, param, met, gives, Applies, rank, Due}
 use Rattle.demands.specs.Rows as Row
 use Rattle.demands.proofs.Places.{search-words, one-bad, no-bad}
 use Rattle.demands.proofs.Rows.{Means, itself, turned, fails-where, passes-where, reworded, none, parted, some, ranged, lent-long, all-finite, is-turn, fitting, half-turn, bad-turn, turn, well, rooted-means}
@@ -82,48 +86,56 @@ nth : ℕ → Cause
 nth zero = stage
 nth (suc zero) = size
 nth (suc (suc zero)) = short
-nth (suc (suc (suc zero))) = stale
-nth (suc (suc (suc (suc zero)))) = kind
-nth (suc (suc (suc (suc (suc zero))))) = kind
-nth (suc (suc (suc (suc (suc (suc n)))))) = param
+nth (suc (suc (suc zero))) = form
+nth (suc (suc (suc (suc zero)))) = stale
+nth (suc (suc (suc (suc (suc zero))))) = fresh
+nth (suc (suc (suc (suc (suc (suc zero)))))) = kind
+nth (suc (suc (suc (suc (suc (suc (suc zero))))))) = kind
+nth (suc (suc (suc (suc (suc (suc (suc (suc n)))))))) = param
 
-nth-rank : (c : Cause) → rank c < 7 → rank c ≢ 4 → nth (rank c) ≡ c
+nth-rank : (c : Cause) → rank c < 9 → rank c ≢ 6 → nth (rank c) ≡ c
 unfolding nth
 nth-rank stage h g = refl
 nth-rank size h g = refl
 nth-rank short h g = refl
+nth-rank form h g = refl
 nth-rank stale h g = refl
+nth-rank fresh h g = refl
 nth-rank (Row.number s i) h g = absurd (g refl)
 nth-rank kind h g = refl
 nth-rank param h g = refl
 nth-rank (met r) h g = absurd (omega arith)
 
-same-rank : (c d : Cause) → rank d < 7 → rank d ≢ 4 → rank c ≡ rank d → c ≡ d
+same-rank : (c d : Cause) → rank d < 9 → rank d ≢ 6 → rank c ≡ rank d → c ≡ d
 same-rank c d h g e = sym (nth-rank c (omega arith) (λ z. g (sym e ∙ z))) ∙ ap nth e ∙ nth-rank d h g
 
-pub of-search : (c : Cause) → rank c ≡ 4 → (s : Slice) × (i : ℕ) × (c ≡ Row.number s i)
+pub of-search : (c : Cause) → rank c ≡ 6 → (s : Slice) × (i : ℕ) × (c ≡ Row.number s i)
 of-search stage e = absurd (omega arith)
 of-search size e = absurd (omega arith)
 of-search short e = absurd (omega arith)
+of-search form e = absurd (omega arith)
 of-search stale e = absurd (omega arith)
+of-search fresh e = absurd (omega arith)
 of-search (Row.number s i) e = (s, i, refl)
 of-search kind e = absurd (omega arith)
 of-search param e = absurd (omega arith)
 of-search (met r) e = absurd (omega arith)
 
 module _ (f : Format) (a : Asks) (vs : List Result) where
-  late : (c : Cause) → 7 ≤ rank c → Applies f a vs c → FirstFails (gives c) vs
+  late : (c : Cause) → 9 ≤ rank c → Applies f a vs c → FirstFails (gives c) vs
   late stage h w = absurd (omega arith)
   late size h w = absurd (omega arith)
   late short h w = absurd (omega arith)
+  late form h w = absurd (omega arith)
   late stale h w = absurd (omega arith)
+  late fresh h w = absurd (omega arith)
   late (Row.number s i) h w = absurd (omega arith)
   late kind h w = absurd (omega arith)
   late param h w = absurd (omega arith)
   late (met r) h w = w
 
   -- two rows that apply at one rank give one refusal
-  found-one : (c d : Cause) → rank c ≡ 4 → rank d ≡ 4 → Applies f a vs c → Applies f a vs d → gives c ≡ gives d
+  found-one : (c d : Cause) → rank c ≡ 6 → rank d ≡ 6 → Applies f a vs c → Applies f a vs d → gives c ≡ gives d
   found-one c d e g x y =
       let p = of-search c e in
       let q = of-search d g in
@@ -135,9 +147,9 @@ module _ (f : Format) (a : Asks) (vs : List Result) where
       (λ l. ⊎-elim
       (λ u. ap gives (same-rank c d l (λ z. omega arith) e))
       (λ g. ⊎-elim (λ z. found-one c d (e ∙ z) z x y) (λ u. ap gives (same-rank c d l (λ z. omega arith) e)) g)
-      (cmp (rank d) 4))
+      (cmp (rank d) 6))
       (λ g. one-first (late c (omega arith) x) (late d g y))
-      (split (rank d) 7)
+      (split (rank d) 9)
 
   -- a right outcome for the rows from rank k on
   abbrev Right : {A : Type 0} → ℕ → Outcome A → Type 0
@@ -146,7 +158,7 @@ module _ (f : Format) (a : Asks) (vs : List Result) where
 
   module _ {A : Type 0} where
     -- a test in front
-    layer : (t : Bool) (c : Cause) (o : Outcome A) → rank c < 7 → rank c ≢ 4 → Means t (Applies f a vs c) → Right (suc (rank c)) o → Right (rank c) (unless t (gives c) o)
+    layer : (t : Bool) (c : Cause) (o : Outcome A) → rank c < 9 → rank c ≢ 6 → Means t (Applies f a vs c) → Right (suc (rank c)) o → Right (rank c) (unless t (gives c) o)
     layer false c o h g m i = (c, refl, omega arith, m .fails refl, λ d k l x. absurd (omega arith))
     layer true c (refused r) h g m i =
         (i .0, i .1, omega (arith, i .2), i .3, λ d k l x. ⊎-elim (λ u. absurd (omega arith)) (λ e. ⊎-elim (λ s. m .passes refl (subst (Applies f a vs) (same-rank d c h g s) x)) (λ u. i .4 d (omega arith) l x) e) (cmp (rank d) (rank c)))
@@ -154,18 +166,18 @@ module _ (f : Format) (a : Asks) (vs : List Result) where
         λ d k x. ⊎-elim (λ u. absurd (omega arith)) (λ e. ⊎-elim (λ s. m .passes refl (subst (Applies f a vs) (same-rank d c h g s) x)) (λ u. i d (omega arith) x) e) (cmp (rank d) (rank c))
 
     -- the search in front
-    search : (o : Outcome A) → Right 5 o → Right 4 (onward (searched (a .inputs)) (λ (t : Bool). o))
+    search : (o : Outcome A) → Right 7 o → Right 6 (onward (searched (a .inputs)) (λ (t : Bool). o))
     search o i = go (searched (a .inputs)) refl o i
       where
-        clean : {t : Bool} → searched (a .inputs) ≡ accepted t → (d : Cause) → rank d ≡ 4 → Applies f a vs d → ⊥
+        clean : {t : Bool} → searched (a .inputs) ≡ accepted t → (d : Cause) → rank d ≡ 6 → Applies f a vs d → ⊥
         clean e d g x = let p = of-search d g in no-bad (a .inputs) e (subst (Applies f a vs) (p .2) x)
 
-        go : (q : Outcome Bool) → searched (a .inputs) ≡ q → (o : Outcome A) → Right 5 o → Right 4 (onward q (λ (t : Bool). o))
+        go : (q : Outcome Bool) → searched (a .inputs) ≡ q → (o : Outcome A) → Right 7 o → Right 6 (onward q (λ (t : Bool). o))
         go (refused r) e o i = let w = search-words (a .inputs) r e in (Row.number (w .0) (w .1), sym (w .2), omega arith, w .3, λ d k l x. absurd (omega arith))
-        go (accepted t) e (refused r) i = (i .0, i .1, omega (arith, i .2), i .3, λ d k l x. ⊎-elim (λ u. absurd (omega arith)) (λ g. ⊎-elim (λ s. clean e d s x) (λ u. i .4 d (omega arith) l x) g) (cmp (rank d) 4))
-        go (accepted t) e (accepted y) i = λ d k x. ⊎-elim (λ u. absurd (omega arith)) (λ g. ⊎-elim (λ s. clean e d s x) (λ u. i d (omega arith) x) g) (cmp (rank d) 4)
+        go (accepted t) e (refused r) i = (i .0, i .1, omega (arith, i .2), i .3, λ d k l x. ⊎-elim (λ u. absurd (omega arith)) (λ g. ⊎-elim (λ s. clean e d s x) (λ u. i .4 d (omega arith) l x) g) (cmp (rank d) 6))
+        go (accepted t) e (accepted y) i = λ d k x. ⊎-elim (λ u. absurd (omega arith)) (λ g. ⊎-elim (λ s. clean e d s x) (λ u. i d (omega arith) x) g) (cmp (rank d) 6)
 
-    steps-right : (o : Outcome A) → Ends vs o → Right 7 o
+    steps-right : (o : Outcome A) → Ends vs o → Right 9 o
     steps-right (refused r) i = (met r, refl, omega arith, i, λ d g l x. absurd (omega arith))
     steps-right (accepted y) i = λ d g x. i (gives d) (late d g x)
 
@@ -175,11 +187,13 @@ module _ (f : Format) (a : Asks) (vs : List Result) where
         layer (a .fits) stage _ (omega arith) (λ z. omega arith) (itself (a .fits))
         (layer (every within (a .sizes)) size _ (omega arith) (λ z. omega arith) (some within OutOfRange ranged (a .sizes))
         (layer (every long (a .lent)) short _ (omega arith) (λ z. omega arith) (some long Shorter lent-long (a .lent))
+        (layer (a .formed) form _ (omega arith) (λ z. omega arith) (itself (a .formed))
         (layer (not (a .stale)) stale _ (omega arith) (λ z. omega arith) (turned (a .stale))
+        (layer (not (a .fresh)) fresh _ (omega arith) (λ z. omega arith) (turned (a .fresh))
         (search _
         (layer (every isPlain (a .plain)) kind _ (omega arith) (λ z. omega arith) (some isPlain IsTurn is-turn (a .plain))
         (layer (every (fit f) (a .params)) param _ (omega arith) (λ z. omega arith) (some (fit f) (Unfit f) (fitting f) (a .params))
-        (steps-right o i)))))))
+        (steps-right o i)))))))))
 
     due : (o : Outcome A) (r : Refusal) → Right 0 o → refusal o ≡ verdict r → Due f a vs r
     due (refused q) r i e = record { cause = i .0; gives-it = i .1 ∙ verdict-same e; applies = i .3; no-earlier = λ c l x. i .4 c (omega arith) l x }
@@ -261,6 +275,24 @@ module _ (f : Format) where
     unfolding pointRefusal
     point-taken = guarded-taken f (pointAsks f l n k) [] (accepted _) no-first
 
+-- load: under three bytes 2, and then what is due of what it asks
+short-first : {A : Type 0} (t : Bool) (n : ℕ) → leb 3 n ≡ t → (o : Outcome A) (r : Refusal) (D : Type 0) → ((refusal o ≡ verdict r) ↔ D) → (refusal (unless t SHORT o) ≡ verdict r) ↔ (((n < 3) × (r ≡ SHORT)) ⊎ ((3 ≤ n) × D))
+short-first true n e o r D k = (λ z. inr (leb-true 3 n e, k .0 z), ⊎-elim (λ w. absurd (omega (arith, leb-true 3 n e, w .0))) (λ w. k .1 (w .1)))
+short-first false n e o r D k = (λ z. inl (leb-false 3 n e, verdict-same (sym z)), ⊎-elim (λ w. ap verdict (sym (w .1))) (λ w. absurd (omega (arith, leb-false 3 n e, w .0))))
+
+short-taken : {A : Type 0} (t : Bool) (n : ℕ) → leb 3 n ≡ t → (o : Outcome A) (D : Type 0) → ((refusal o ≡ taken) ↔ D) → (refusal (unless t SHORT o) ≡ taken) ↔ ((3 ≤ n) × D)
+short-taken true n e o D k = (λ z. (leb-true 3 n e, k .0 z), λ w. k .1 (w .1))
+short-taken false n e o D k = (λ z. absurd (omega (arith, number-of z)), λ w. absurd (omega (arith, leb-false 3 n e, w .0)))
+
+module _ (f : Format) (b : List ℕ) where
+  pub load-exactly : (r : Refusal) → (loadAnswer b f .refusal ≡ verdict r) ↔ (((length b < 3) × (r ≡ SHORT)) ⊎ ((3 ≤ length b) × Due f (loadAsks b) [] r))
+  unfolding loadOf
+  load-exactly r = short-first (leb 3 (length b)) (length b) refl (guarded f (loadAsks b) (accepted (filterIn b))) r _ (guarded-exactly f (loadAsks b) [] (accepted (filterIn b)) no-first r)
+
+  pub load-taken : (loadAnswer b f .refusal ≡ taken) ↔ ((3 ≤ length b) × ((c : Cause) → Applies f (loadAsks b) [] c → ⊥))
+  unfolding loadOf
+  load-taken = short-taken (leb 3 (length b)) (length b) refl (guarded f (loadAsks b) (accepted (filterIn b))) _ (guarded-taken f (loadAsks b) [] (accepted (filterIn b)) no-first)
+
 -- ---- the wrap that callers may use, and the check of a kind: 56, then 6
 
 module _ {A : Type 0} (x : A) {Bad Unfit : Type 0} where
@@ -336,8 +368,8 @@ pub one-of : {A : Type 0} (o : Outcome A) → (refusal o ≡ taken) ⊎ ((r : Re
 one-of (refused r) = inr (r, refl)
 one-of (accepted a) = inl refl
 
-pub unchanged : (s : Filter) (o : Outcome Done) → stepped s o .reply .refusal .number ≢ 0 → (stepped s o .filter ≡ s) × (stepped s o .reply .given ≡ []) × (stepped s o .reply .stale ≡ true)
-unchanged s (refused r) h = (refl, refl, refl)
+pub unchanged : (s : Filter) (o : Outcome Done) → stepped s o .reply .refusal .number ≢ 0 → (stepped s o .filter ≡ s) × (stepped s o .reply .given ≡ []) × (stepped s o .reply .stale ≡ true) × (stepped s o .reply .bytes ≡ [])
+unchanged s (refused r) h = (refl, refl, refl, refl)
 unchanged s (accepted d) h = absurd (h refl)
 
 module _ (f : Format) (s : Filter) (c : Call) where
@@ -352,13 +384,13 @@ module _ (f : Format) (s : Filter) (c : Call) where
       (λ w. (verdict (w .0) .place, w .1 ∙ ap verdict (by-number (w .0) (sym (number-of (w .1)) ∙ e))))
       ends-so
 
-  pub refused-nothing : step f s c .reply .refusal .number ≢ 0 → (step f s c .filter ≡ s) × (step f s c .reply .given ≡ []) × (step f s c .reply .stale ≡ true)
+  pub refused-nothing : step f s c .reply .refusal .number ≢ 0 → (step f s c .filter ≡ s) × (step f s c .reply .given ≡ []) × (step f s c .reply .stale ≡ true) × (step f s c .reply .bytes ≡ [])
   unfolding step
   refused-nothing h = unchanged s (outcome f (seen s) c) h
 
-  -- `over .. b` is what stands in a lent buffer b afterwards
-  pub refused-unwritten : step f s c .reply .refusal .number ≢ 0 → (step f s c .filter ≡ s) × ((b : List Float) → over (step f s c .reply .given) b ≡ b)
-  refused-unwritten h = let n = refused-nothing h in (n .0, λ b. ap (λ (w : List Float). over w b) (n .1))
+  -- `over .. b` is what stands in a lent buffer b afterwards, of numbers or of bytes
+  pub refused-unwritten : step f s c .reply .refusal .number ≢ 0 → (step f s c .filter ≡ s) × ((b : List Float) → over (step f s c .reply .given) b ≡ b) × ((b : List ℕ) → over (step f s c .reply .bytes) b ≡ b)
+  refused-unwritten h = let n = refused-nothing h in (n .0, λ b. ap (λ (w : List Float). over w b) (n .1), λ b. ap (λ (w : List ℕ). over w b) (n .3))
 
   -- a refused reading of values answers +0, and stale
   pub refused-values : step f s c .reply .refusal .number ≢ 0 → (paramsRead (step f s c .reply) .params ≡ record { alpha = plusZero; beta = plusZero; kappa = plusZero }) × (staleRead (step f s c .reply) .stale ≡ true)
@@ -380,6 +412,9 @@ module _ (f : Format) (n : ℕ) where
 
   pub new-sheet-refused : (q : List Float) (params : Params) → newSheet f n q params .refusal .number ≢ 0 → newSheet f n q params .sheet ≡ emptySheet
   new-sheet-refused q params = or-refused emptySheet (newSheetOf f n q params)
+
+pub load-refused : (f : Format) (b : List ℕ) → loadAnswer b f .refusal .number ≢ 0 → loadAnswer b f .filter ≡ empty
+load-refused f b = or-refused empty (loadOf b f)
 
 -- a refused point is an empty part
 pub point-refused : (f : Format) (l : List Float) (n k : ℕ) → pointRefusal f l n k .number ≢ 0 → pointOf f l n k ≡ []

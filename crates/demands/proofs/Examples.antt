@@ -25,6 +25,7 @@ use Rattle.filter.specs.Filters.{isCorrecting}
 use Rattle.filter.specs.Calls.{Call, setting, closing, reading, open-prediction, open-correction, close-prediction, read-stale, set-x, abandon}
 use Rattle.filter.specs.Steps.{step}
 use Rattle.filter.specs.New.{newOf}
+use Rattle.script.specs.Text.{sameBytes}
 use Rattle.demands.specs.Runs.{Told, tells, told, ranTo, Alike, Struck, none-left, call-kept, refused-struck, opening-struck}
 use Rattle.demands.specs.Sound.{Yielded, fresh-made, put-at-will}
 use Rattle.demands.specs.Written.{int, frac, _is_, _are_, failing}
@@ -85,7 +86,7 @@ pub record Computed : Type 0 where
   pub will-drew : drew (toldBy firstOnly (at-will binary64) (corrected (int 3))) ≡ false
 
 pub computed : Computed
-unfolding halfTurn wrapStep brought _is_ _are_ ofInt toBits add sub mul rem div neg lt le size odd allFinite aboveZero zeros front rootOf rooted rootUnits nearRoot floorRoot totalOf placesOf builtOf rowOf rowsOf worked run rowsFrom columnOf columnsFrom unitAt lambdaOf scaleOf w0mOf w0cOf wiOf weightsPass pointAt inRange guarded searched searchedFrom step newOf tells told ranTo toldBy
+unfolding halfTurn wrapStep brought _is_ _are_ sameBytes ofInt toBits add sub mul rem div neg lt le size odd allFinite aboveZero zeros front rootOf rooted rootUnits nearRoot floorRoot totalOf placesOf builtOf rowOf rowsOf worked run rowsFrom columnOf columnsFrom unitAt lambdaOf scaleOf w0mOf w0cOf wiOf weightsPass pointAt inRange guarded searched searchedFrom step newOf tells told ranTo toldBy
 computed = record {
   first-left = refl;
   will-left = refl;

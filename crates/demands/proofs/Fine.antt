@@ -29,7 +29,7 @@ use Rattle.filter.specs.declared.Stage.{Stage}
 use Rattle.filter.specs.declared.Stage.the-variants.{CorrectingStepped}
 use Rattle.filter.specs.Asked.{Asks, fit, by-params, by-kind, inRange, within, every}
 use Rattle.filter.specs.Filters.{isShut, isPredictingStepped, isCorrectingStepped, isCorrection, isStepped, seen, Writing, q-set, params-set, kinds-set, Setting, x-set, p-set, opened-prediction, opened-correction, opened-prediction-stepped, opened-correction-stepped, Closing, Change, writes, sets, closes, keeps, abandons, reads, changed}
-use Rattle.filter.specs.Calls.{set-x, set-p, set-q, set-params, set-kind, open-prediction, open-correction, open-prediction-stepped, open-correction-stepped, ask, image-prediction, image-correction, close-prediction, close-correction, close-correction-flat, SteppedClose, close-prediction-stepped, close-correction-stepped, close-correction-flat-stepped, withList, read-x, read-p, read-q, read-points, read-params, read-stale, Call, writing, setting, stepping, closing, closing-stepped, abandon, reading, due, fits, sized, halves, valuesOf, asKinds, named, asks, Done, opened, openedStepped, closed, draws, closePlan, plan, weightedFrom, flatFrom}
+use Rattle.filter.specs.Calls.{set-x, set-p, set-q, set-params, set-kind, open-prediction, open-correction, open-prediction-stepped, open-correction-stepped, ask, image-prediction, image-correction, close-prediction, close-correction, close-correction-flat, SteppedClose, close-prediction-stepped, close-correction-stepped, close-correction-flat-stepped, withList, read-x, read-p, read-q, read-points, read-params, read-stale, save, Call, writing, setting, stepping, closing, closing-stepped, abandon, reading, due, fits, sized, halves, valuesOf, asKinds, named, asks, Done, opened, openedStepped, closed, draws, closePlan, plan, weightedFrom, flatFrom}
 use Rattle.filter.proofs.Closing.{predicting-open, correcting-open, propagatedOf, predicting, predicting-is, correcting-is, correcting-flat-is}
 use Rattle.stepped.proofs.Seen.{stepped-open, predicting-at, correcting-at, fits-seen, asked-is, predicted-is, observed-is, observed-asks}
 use Rattle.stepped.proofs.Ways.{own-stepped, planned-whole}
@@ -261,3 +261,4 @@ module _ (f : Format) (s : Filter) (o : Sound f s) where
   fine (reading (read-points b)) h = ran-finish _ _ (record { change = tt; given = rw (h .stale) (o .current (h .stale) .points .bounded) })
   fine (reading read-params) h = ran-finish _ _ (record { change = tt; given = o .params })
   fine (reading read-stale) h = ran-finish _ _ (record { change = tt; given = refl })
+  fine (reading (save b)) h = ran-finish _ _ (record { change = tt; given = refl })

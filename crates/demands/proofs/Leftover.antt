@@ -107,7 +107,7 @@ module _ (f : Format) where
 
 -- ---- what is open
 
-shut-is : (t : Stage) → isShut t ≡ true → t ≡ Shut
+pub shut-is : (t : Stage) → isShut t ≡ true → t ≡ Shut
 shut-is Shut h = refl
 shut-is Predicting h = absurd (two-ways h refl)
 shut-is Correcting h = absurd (two-ways h refl)

@@ -21,7 +21,7 @@ use Rattle.pairs.specs.declared.Side.{Side}
 use Rattle.pairs.specs.declared.Side.the-variants.{First, Second}
 use Rattle.pairs.specs.Pairs.{pair, trackAt, solo, onSheet, neitherOpen, pairFits, pairAsks, pairOutcome, pairAfter, leaves, PairStepped, pairStep}
 use Rattle.pairs.specs.NewPair.{emptyPair, newPairAsks, newPairOf, newPairAnswer}
-use Rattle.demands.specs.Rows.{here, OutOfRange, Cause, stage, size, short, stale, kind, param, met, Applies, rank, Due}
+use Rattle.demands.specs.Rows.{here, OutOfRange, Cause, stage, size, short, form, stale, fresh, kind, param, met, Applies, rank, Due}
 use Rattle.demands.specs.Rows as Row
 use Rattle.demands.specs.Settings.{sheetMarks}
 use Rattle.demands.specs.PairRuns.{other}
@@ -54,9 +54,9 @@ module _ (f : Format) (p : Pair) (w : Side) where
     pair-ends = rw told-is (one-of (pairOutcome f p w c))
 
     -- what is refused hands out nothing
-    pub pair-refused : pairStep f p w c .reply .refusal .number ≢ 0 → (pairStep f p w c .reply .given ≡ []) × (pairStep f p w c .reply .stale ≡ true)
+    pub pair-refused : pairStep f p w c .reply .refusal .number ≢ 0 → (pairStep f p w c .reply .given ≡ []) × (pairStep f p w c .reply .stale ≡ true) × (pairStep f p w c .reply .bytes ≡ [])
     unfolding pairStep
-    pair-refused n = let u = unchanged (solo p w) (pairOutcome f p w c) n in (u .1, u .2)
+    pair-refused n = let u = unchanged (solo p w) (pairOutcome f p w c) n in (u .1, u .2, u .3)
 
     -- 1 for n outside 1 to 8
     pub size-first : OutOfRange (record { value = p .sheet .n; from = 1; to = 8 }) → pairFits p w c ≡ true → pairStep f p w c .reply .refusal ≡ verdict SIZE
@@ -66,7 +66,9 @@ module _ (f : Format) (p : Pair) (w : Side) where
         early stage l x = two-ways h x
         early size l x = absurd (omega arith)
         early short l x = absurd (omega arith)
+        early form l x = absurd (omega arith)
         early stale l x = absurd (omega arith)
+        early fresh l x = absurd (omega arith)
         early (Row.number s i) l x = absurd (omega arith)
         early kind l x = absurd (omega arith)
         early param l x = absurd (omega arith)

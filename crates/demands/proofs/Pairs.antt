@@ -14,7 +14,7 @@ use Rattle.matrix.specs.Results.{planned}
 use Rattle.sigma.specs.declared.Params.{Params}
 use Rattle.filter.specs.declared.Track.{Track}
 use Rattle.filter.specs.declared.Filter.{Filter}
-use Rattle.filter.specs.Asked.{by-params}
+use Rattle.filter.specs.Asked.{of-numbers, by-params}
 use Rattle.filter.specs.Filters.{isShut, seen, written, marked, abandoned}
 use Rattle.filter.specs.Calls.{SheetCall, SetCall, read-q, read-params, Call, writing, setting, abandon, reading, writingOf, plan}
 use Rattle.filter.specs.Steps.{Stepped, stepped, step, paramsOf, paramsRead, staleRead}
@@ -115,8 +115,8 @@ module _ (f : Format) where
       size-when = size-first f p w c
 
       -- A refused call changes nothing: not the sheet, not either side, not a lent buffer b.
-      pub refused-changes-nothing : pairStep f p w c .reply .refusal .number ≢ 0 → (pairStep f p w c .pair ≡ p) × ((b : List Float) → over (pairStep f p w c .reply .given) b ≡ b)
-      refused-changes-nothing n = (refused-whole f p w c n, λ b. ap (λ (l : List Float). over l b) (pair-refused f p w c n .0))
+      pub refused-changes-nothing : pairStep f p w c .reply .refusal .number ≢ 0 → (pairStep f p w c .pair ≡ p) × ((b : List Float) → over (pairStep f p w c .reply .given) b ≡ b) × ((b : List ℕ) → over (pairStep f p w c .reply .bytes) b ≡ b)
+      refused-changes-nothing n = let r = pair-refused f p w c n in (refused-whole f p w c n, λ b. ap (λ (l : List Float). over l b) (r .0), λ b. ap (λ (l : List ℕ). over l b) (r .2))
 
       -- A refused reading of values answers +0, and stale.
       pub refused-reading : pairStep f p w c .reply .refusal .number ≢ 0
@@ -132,8 +132,10 @@ module _ (f : Format) where
     pub new-asks : newPairAsks n x₁ p₁ x₂ p₂ q params ≡ record {
       fits = true;
       sizes = record { value = n; from = 1; to = 8 } ∷ [];
-      lent = record { slice = x₁; needs = n } ∷ record { slice = p₁; needs = n * n } ∷ record { slice = x₂; needs = n } ∷ record { slice = p₂; needs = n * n } ∷ record { slice = q; needs = n * n } ∷ [];
+      lent = of-numbers x₁ n ∷ of-numbers p₁ (n * n) ∷ of-numbers x₂ n ∷ of-numbers p₂ (n * n) ∷ of-numbers q (n * n) ∷ [];
+      formed = true;
       stale = false;
+      fresh = false;
       inputs = record { name = State; numbers = take n x₁ } ∷ record { name = Covariance; numbers = take (n * n) p₁ } ∷ record { name = State; numbers = take n x₂ } ∷ record { name = Covariance; numbers = take (n * n) p₂ } ∷ record { name = Noise; numbers = take (n * n) q } ∷ record { name = Lone; numbers = params .alpha ∷ params .beta ∷ params .kappa ∷ [] } ∷ [];
       plain = [];
       params = by-params n params ∷ [];

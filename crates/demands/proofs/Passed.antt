@@ -4,7 +4,7 @@ use mathlib.Core.Bool.{Bool, true, false, not, _&&_, cond}
 use mathlib.Core.List.{List, [], _∷_}
 use borrow.Author.Tests.{not-true}
 use lib.Ieee.{Format}
-use Rattle.floats.specs.Refusal.{Refusal, SIZE, SHORT, STAGE, STALE, PARAM, KIND, Outcome, refused, accepted, unless, onward}
+use Rattle.floats.specs.Refusal.{Refusal, SIZE, SHORT, STAGE, STALE, PARAM, KIND, FRESH, RECORD, Outcome, refused, accepted, unless, onward}
 use Rattle.angles.specs.Kinds.{isPlain}
 use Rattle.floats.specs.Numbers.{allFinite}
 use Rattle.floats.specs.Search.{Input, searched}
@@ -50,7 +50,9 @@ pub record Passed (f : Format) (a : Asks) : Type 0 where
   pub fits : a .fits ≡ true
   pub sizes : Pass within (a .sizes)
   pub lent : Pass long (a .lent)
+  pub formed : a .formed ≡ true
   pub stale : a .stale ≡ false
+  pub fresh : a .fresh ≡ false
   pub inputs : Pass finiteIn (a .inputs)
   pub plain : every isPlain (a .plain) ≡ true
   pub params : every (fit f) (a .params) ≡ true
@@ -74,11 +76,13 @@ module _ {A : Type 0} (P : Outcome A → Type 0) (never : (r : Refusal) → P (r
       layer (a .fits) STAGE _ (λ h1.
       layer (every within (a .sizes)) SIZE _ (λ h2.
       layer (every long (a .lent)) SHORT _ (λ h3.
-      layer (not (a .stale)) STALE _ (λ h4.
-      search (a .inputs) _ (λ h5.
-      layer (every isPlain (a .plain)) KIND _ (λ h6.
-      layer (every (fit f) (a .params)) PARAM _ (λ h7.
-      h (record { fits = h1; sizes = pass within (a .sizes) h2; lent = pass long (a .lent) h3; stale = not-true (a .stale) h4; inputs = h5; plain = h6; params = h7 }))))))))
+      layer (a .formed) RECORD _ (λ h4.
+      layer (not (a .stale)) STALE _ (λ h5.
+      layer (not (a .fresh)) FRESH _ (λ h6.
+      search (a .inputs) _ (λ h7.
+      layer (every isPlain (a .plain)) KIND _ (λ h8.
+      layer (every (fit f) (a .params)) PARAM _ (λ h9.
+      h (record { fits = h1; sizes = pass within (a .sizes) h2; lent = pass long (a .lent) h3; formed = h4; stale = not-true (a .stale) h5; fresh = not-true (a .fresh) h6; inputs = h7; plain = h8; params = h9 }))))))))))
 
 -- ---- the steps
 

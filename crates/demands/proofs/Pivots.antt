@@ -22,7 +22,7 @@ use Rattle.filter.specs.Asked.{Size, Asks}
 use Rattle.filter.specs.Filters.{seen}
 use Rattle.filter.specs.Calls.{CloseCall, Call, setting, closing, open-prediction, open-correction, close-correction, close-correction-flat, asks, plan, weightedFrom, flatFrom}
 use Rattle.filter.specs.Steps.{step}
-use Rattle.demands.specs.Rows.{Some, here, there, FirstBad, searches, Fails, FirstFails, now, later, Cause, stage, size, short, stale, kind, param, met, gives, Applies, rank, Free, IsOpen, IsClose, IsCorrection, ByStep}
+use Rattle.demands.specs.Rows.{Some, here, there, FirstBad, searches, Fails, FirstFails, now, later, Cause, stage, size, short, form, stale, fresh, kind, param, met, gives, Applies, rank, Free, IsOpen, IsClose, IsCorrection, ByStep}
 use Rattle.demands.specs.Rows as Row
 use Rattle.demands.specs.Listed.{listedAtPoints, listedAtOpen, listedAtHead, listedAtGain, listedAtCorrection}
 use Rattle.stepped.proofs.Seen.{fits-seen}
@@ -95,7 +95,9 @@ of-steps : (r : Refusal) → 6 < number r → number r < 10 → (c : Cause) → 
 of-steps r h k stage e = absurd (omega (arith, ap number e))
 of-steps r h k size e = absurd (omega (arith, ap number e))
 of-steps r h k short e = absurd (omega (arith, ap number e))
+of-steps r h k form e = absurd (omega (arith, ap number e))
 of-steps r h k stale e = absurd (omega (arith, ap number e))
+of-steps r h k fresh e = absurd (omega (arith, ap number e))
 of-steps r h k (Row.number s i) e = absurd (omega (arith, ap number e, slice-above s))
 of-steps r h k kind e = absurd (omega (arith, ap number e))
 of-steps r h k param e = absurd (omega (arith, ap number e))
@@ -103,11 +105,13 @@ of-steps r h k (met q) e = ap met e
 
 module _ (f : Format) (s : Filter) where
   -- the rows before the steps don't go by their results
-  unstepped : (a : Asks) (vs ws : List Result) (d : Cause) → rank d < 7 → Applies f a vs d → Applies f a ws d
+  unstepped : (a : Asks) (vs ws : List Result) (d : Cause) → rank d < 9 → Applies f a vs d → Applies f a ws d
   unstepped a vs ws stage l x = x
   unstepped a vs ws size l x = x
   unstepped a vs ws short l x = x
+  unstepped a vs ws form l x = x
   unstepped a vs ws stale l x = x
+  unstepped a vs ws fresh l x = x
   unstepped a vs ws (Row.number t i) l x = x
   unstepped a vs ws kind l x = x
   unstepped a vs ws param l x = x
@@ -116,31 +120,31 @@ module _ (f : Format) (s : Filter) where
   abbrev steps : Call → List Result
   steps c = planned (plan f (seen s) c)
 
-  with-steps : (c : Call) (d : Cause) → rank d < 7 → Applies f (asks (seen s) c) [] d → Applies f (asks (seen s) c) (steps c) d
+  with-steps : (c : Call) (d : Cause) → rank d < 9 → Applies f (asks (seen s) c) [] d → Applies f (asks (seen s) c) (steps c) d
   with-steps c = unstepped (asks (seen s) c) [] (steps c)
 
-  without-steps : (c : Call) (d : Cause) → rank d < 7 → Applies f (asks (seen s) c) (steps c) d → Applies f (asks (seen s) c) [] d
+  without-steps : (c : Call) (d : Cause) → rank d < 9 → Applies f (asks (seen s) c) (steps c) d → Applies f (asks (seen s) c) [] d
   without-steps c = unstepped (asks (seen s) c) (steps c) []
 
   -- one of 51 to 56 is given, by a call that opens nothing, just where nothing is refused before the search and the first bad number is there
-  pub number-exactly : (c : Call) → (IsOpen c → ⊥) → (t : Slice) (i : ℕ) → (step f s c .reply .refusal ≡ verdict (NUMBER t i)) ↔ (Free f 4 s c × FirstBad t i (searches s c))
+  pub number-exactly : (c : Call) → (IsOpen c → ⊥) → (t : Slice) (i : ℕ) → (step f s c .reply .refusal ≡ verdict (NUMBER t i)) ↔ (Free f 6 s c × FirstBad t i (searches s c))
   number-exactly c n t i = (
-    λ e. let w = by-row f s c (NUMBER t i) (λ b. n (b .1)) e in let free : Free f 4 s c = λ d l x. w .1 d l (with-steps c d (omega arith) x) in (free, subst (FirstBad t i) (searched free) (w .0)),
+    λ e. let w = by-row f s c (NUMBER t i) (λ b. n (b .1)) e in let free : Free f 6 s c = λ d l x. w .1 d l (with-steps c d (omega arith) x) in (free, subst (FirstBad t i) (searched free) (w .0)),
     λ w. exactly f s c (NUMBER t i) .1 (record { cause = Row.number t i; gives-it = refl; applies = subst (FirstBad t i) (sym (searched (w .0))) (w .1); no-earlier = λ d l x. w .0 d l (without-steps c d (omega arith) x) }),
   )
     where
-      searched : Free f 4 s c → asks (seen s) c .inputs ≡ searches s c
+      searched : Free f 6 s c → asks (seen s) c .inputs ≡ searches s c
       searched free = searches-so (seen s) c ∙ images-searched s c (sym (fits-seen s c) ∙ passes-where (itself (asks (seen s) c .fits)) (free stage (omega arith)))
 
   -- 7, 8 and 9 are given just where nothing is refused before the steps and the first result that fails gives them, whatever B says of that
-  met-exactly : (c : Call) (r : Refusal) → 6 < number r → number r < 10 → {B : Type 0} → (Free f 7 s c → FirstFails r (steps c) ↔ B) → (step f s c .reply .refusal ≡ verdict r) ↔ (Free f 7 s c × B)
+  met-exactly : (c : Call) (r : Refusal) → 6 < number r → number r < 10 → {B : Type 0} → (Free f 9 s c → FirstFails r (steps c) ↔ B) → (step f s c .reply .refusal ≡ verdict r) ↔ (Free f 9 s c × B)
   met-exactly c r h k {B} so = (to, λ w. exactly f s c r .1 (record { cause = met r; gives-it = refl; applies = so (w .0) .1 (w .1); no-earlier = λ d l x. w .0 d l (without-steps c d l x) }))
     where
-      to : step f s c .reply .refusal ≡ verdict r → Free f 7 s c × B
+      to : step f s c .reply .refusal ≡ verdict r → Free f 9 s c × B
       to e =
           let d = exactly f s c r .0 e in
           let m = of-steps r h k (d .cause) (d .gives-it) in
-          let free : Free f 7 s c = λ b l x. d .no-earlier b (omega (arith, ap rank m)) (with-steps c b l x) in
+          let free : Free f 9 s c = λ b l x. d .no-earlier b (omega (arith, ap rank m)) (with-steps c b l x) in
           (free, so free .0 (subst (Applies f (asks (seen s) c) (steps c)) m (d .applies)))
 
   -- so by a call whose steps can give them
@@ -160,15 +164,15 @@ module _ (f : Format) (s : Filter) where
   unfolding named
   range-by-steps c e = by-own-steps c RANGE (omega arith) (omega arith) (as-refused f s c (omega arith) e .1)
 
-  states-small : (c : Call) → Free f 7 s c → s .sheet .n ≤ 8
+  states-small : (c : Call) → Free f 9 s c → s .sheet .n ≤ 8
   states-small c u = ⊎-elim (λ h. absurd (u size (omega arith) (rw (regular f (seen s) c .states) (here (inr h))))) (λ h. h) (split 8 (s .sheet .n))
 
-  pub prediction-pivot : (b : List Float) (j : ℕ) → let c = setting (open-prediction b) in (step f s c .reply .refusal ≡ verdict (PIVOT j)) ↔ (Free f 7 s c × BadPivot f (s .track .p) (s .sheet .n) j)
+  pub prediction-pivot : (b : List Float) (j : ℕ) → let c = setting (open-prediction b) in (step f s c .reply .refusal ≡ verdict (PIVOT j)) ↔ (Free f 9 s c × BadPivot f (s .track .p) (s .sheet .n) j)
   prediction-pivot b j =
       let c = setting (open-prediction b) in
       met-exactly c (PIVOT j) (omega arith) (omega arith) (λ u. rw (open-prediction-lists f (seen s) b) (open-pivot f (s .sheet .n) j (s .track .x) (s .track .p) _ (states-small c u)))
 
-  pub correction-opened-pivot : (b : List Float) (j : ℕ) → let c = setting (open-correction b) in (step f s c .reply .refusal ≡ verdict (PIVOT j)) ↔ (Free f 7 s c × ((s .track .stale ≡ true) × BadPivot f (s .track .p) (s .sheet .n) j))
+  pub correction-opened-pivot : (b : List Float) (j : ℕ) → let c = setting (open-correction b) in (step f s c .reply .refusal ≡ verdict (PIVOT j)) ↔ (Free f 9 s c × ((s .track .stale ≡ true) × BadPivot f (s .track .p) (s .sheet .n) j))
   correction-opened-pivot b j =
       let c = setting (open-correction b) in
       met-exactly c (PIVOT j) (omega arith) (omega arith) (λ u. rw (open-correction-lists f (seen s) b) (afresh (s .track .stale) (open-pivot f (s .sheet .n) j (s .track .x) (s .track .p) _ (states-small c u))))
@@ -178,17 +182,17 @@ module _ (f : Format) (s : Filter) where
       afresh false {r} e = (λ w. absurd (no-first r w), λ w. absurd (two-ways (w .0) refl))
 
   -- m, the second size of a close
-  measured-small : (m : ℕ) (c : CloseCall) {l : List Size} → asks (seen s) (closing c) .sizes ≡ record { value = s .sheet .n; from = 1; to = 8 } ∷ record { value = m; from = 1; to = 4 } ∷ l → Free f 7 s (closing c) → m ≤ 8
+  measured-small : (m : ℕ) (c : CloseCall) {l : List Size} → asks (seen s) (closing c) .sizes ≡ record { value = s .sheet .n; from = 1; to = 8 } ∷ record { value = m; from = 1; to = 4 } ∷ l → Free f 9 s (closing c) → m ≤ 8
   measured-small m c e u = ⊎-elim (λ h. absurd (u size (omega arith) (rw e (there (here (inr h)))))) (λ h. omega arith) (split 4 m)
 
   pub correction-closed-pivot : (m : ℕ) (z r : List Float) (kinds : List Kind) (observed : List Float) (j : ℕ) → let c = closing (close-correction m z r kinds observed) in let h = weightedFrom f (seen s) m z r kinds observed in
-      (step f s c .reply .refusal ≡ verdict (INNOV j)) ↔ (Free f 7 s c × ((Some Fails (listedAtHead f h) → ⊥) × BadPivot f (h .s) m j))
+      (step f s c .reply .refusal ≡ verdict (INNOV j)) ↔ (Free f 9 s c × ((Some Fails (listedAtHead f h) → ⊥) × BadPivot f (h .s) m j))
   correction-closed-pivot m z r kinds observed j =
       met-exactly (closing (close-correction m z r kinds observed)) (INNOV j) (omega arith) (omega arith)
       (λ u. rw (close-correction-lists f (seen s) m z r kinds observed) (correction-pivot f (weightedFrom f (seen s) m z r kinds observed) j (measured-small m (close-correction m z r kinds observed) refl u)))
 
   pub flat-correction-pivot : (m : ℕ) (z r observed : List Float) (j : ℕ) → let c = closing (close-correction-flat m z r observed) in let h = flatFrom f (seen s) m z r observed in
-      (step f s c .reply .refusal ≡ verdict (INNOV j)) ↔ (Free f 7 s c × ((Some Fails (listedAtHead f h) → ⊥) × BadPivot f (h .s) m j))
+      (step f s c .reply .refusal ≡ verdict (INNOV j)) ↔ (Free f 9 s c × ((Some Fails (listedAtHead f h) → ⊥) × BadPivot f (h .s) m j))
   flat-correction-pivot m z r observed j =
       met-exactly (closing (close-correction-flat m z r observed)) (INNOV j) (omega arith) (omega arith)
       (λ u. rw (close-correction-flat-lists f (seen s) m z r observed) (correction-pivot f (flatFrom f (seen s) m z r observed) j (measured-small m (close-correction-flat m z r observed) refl u)))

@@ -6,17 +6,18 @@ use mathlib.Core.List.{List, [], _∷_}
 use mathlib.Core.Logic.{_↔_, _⊎_, inl, inr, ⊎-elim}
 use native.Mathlib.Omega.{arith}
 use lib.ListN.{getD}
-use lib.Ieee.{Float}
+use lib.Ieee.{Float, Format}
 use lib.Ieee.Scale.{finite}
 use Rattle.floats.specs.declared.Slice.{Slice}
 use Rattle.floats.specs.declared.Verdict.{Verdict}
-use Rattle.floats.specs.Refusal.{Refusal, SIZE, SHORT, STAGE, STALE, NUMBER, PARAM, PIVOT, INNOV, RANGE, KIND, verdict, taken, Outcome, refused, accepted, refusal, unless, onward, nothing}
+use Rattle.floats.specs.Refusal.{Refusal, SIZE, SHORT, STAGE, STALE, NUMBER, PARAM, PIVOT, INNOV, RANGE, KIND, FRESH, RECORD, verdict, taken, Outcome, refused, accepted, refusal, unless, onward, nothing}
 use Rattle.floats.specs.Numbers.{plusZero, allFinite}
 use Rattle.floats.specs.Search.{Input, searchedFrom, searched}
 use Rattle.floats.proofs.Refusals.{refused-never}
 use Rattle.floats.proofs.Search.{none-bad, all-good}
-use Rattle.angles.specs.Kinds.{plain, halfOf}
+use Rattle.angles.specs.Kinds.{plain, isPlain, halfOf}
 use Rattle.angles.specs.declared.Kind.{Kind}
+use Rattle.filter.specs.Asked.{Asks, within, long, fit, every, guarded}
 use Rattle.filter.specs.Calls.{halves}
 use Rattle.demands.specs.Rows.{Some, here, there, NotFinite, FirstIn, FirstBad, found, further, BadTurn, FirstBadTurn, Placed}
 use Rattle.demands.proofs.Rows.{two-ways, itself, fails-where, passes-where, all-finite, bad-turn}
@@ -111,6 +112,17 @@ unfolding searched
 finite-searched [] h = refl
 finite-searched (x ∷ l) h = rw (none-bad (x .name) 0 (x .numbers) (h .0)) (finite-searched l (h .1))
 
+-- a call whose tests pass is what its steps come to
+module _ {A : Type 0} (f : Format) (a : Asks) (o : Outcome A) where
+  pub passes : a .fits ≡ true → every within (a .sizes) ≡ true → every long (a .lent) ≡ true → a .formed ≡ true → a .stale ≡ false → a .fresh ≡ false → Pass finiteIn (a .inputs) → every isPlain (a .plain) ≡ true → every (fit f) (a .params) ≡ true → guarded f a o ≡ o
+  unfolding guarded
+  passes e₁ e₂ e₃ e₄ e₅ e₆ e₇ e₈ e₉ = rw (e₁, e₂, e₃, e₄, e₅, e₆, finite-searched (a .inputs) e₇, e₈, e₉)
+
+  -- and two whose tests agree come to the same
+  pub agrees : (c : Asks) → a .fits ≡ c .fits → every within (a .sizes) ≡ every within (c .sizes) → every long (a .lent) ≡ every long (c .lent) → a .formed ≡ c .formed → a .stale ≡ c .stale → a .fresh ≡ c .fresh → searched (a .inputs) ≡ searched (c .inputs) → a .plain ≡ c .plain → a .params ≡ c .params → guarded f a o ≡ guarded f c o
+  unfolding guarded
+  agrees c e₁ e₂ e₃ e₄ e₅ e₆ e₇ e₈ e₉ = rw (e₁, e₂, e₃, e₄, e₅, e₆, e₇, e₈, e₉)
+
 pub none-finite : (l : List Input) → ((s : Slice) (i : ℕ) → FirstBad s i l → ⊥) → Pass finiteIn l
 none-finite l n = go (searched l) refl
   where
@@ -148,6 +160,8 @@ placed (PIVOT j) = inr (inr (inl refl))
 placed (INNOV j) = inr (inr (inr refl))
 placed RANGE = inl refl
 placed KIND = inl refl
+placed FRESH = inl refl
+placed RECORD = inl refl
 
 pub placed-of : {A : Type 0} (o : Outcome A) → Placed (refusal o)
 placed-of (refused r) = placed r

@@ -21,7 +21,7 @@ use Rattle.angles.specs.declared.Residual.{Residual}
 use Rattle.angles.specs.declared.Residual.the-variants.{Plain, Turn}
 use Rattle.matrix.specs.Results.{Result, numbers, pivot, rooting, good}
 use Rattle.sigma.specs.Weights.{scaleOf, w0mOf, w0cOf, wiOf, weightsPass}
-use Rattle.filter.specs.Asked.{Size, Lent, Param, by-params, by-kind, inRange, within, long, fit, every}
+use Rattle.filter.specs.Asked.{Size, Lent, of-numbers, of-bytes, Param, by-params, by-kind, inRange, within, long, fit, every}
 use Rattle.demands.specs.Rows.{Some, here, there, NotFinite, NotAbove, Below, OutOfRange, Shorter, IsTurn, BadTurn, UnfitTurn, Unfit, Fails}
 
 pub two-ways : {b : Bool} → b ≡ true → b ≡ false → ⊥
@@ -45,7 +45,7 @@ always : {A : Type 0} → (A → ⊥) → Means true A
 always n = record { fails = λ h. absurd (two-ways refl h); passes = λ h a. n a }
 
 -- a test of two parts fails just where one of them does
-either : {a b : Bool} {A B : Type 0} → Means a A → Means b B → Means (a && b) (A ⊎ B)
+pub either : {a b : Bool} {A B : Type 0} → Means a A → Means b B → Means (a && b) (A ⊎ B)
 either {a = true} m n = record { fails = λ h. inr (n .fails h); passes = λ h w. ⊎-elim (λ x. m .passes refl x) (λ y. n .passes h y) w }
 either {a = false} m n = record { fails = λ h. inl (m .fails refl); passes = λ h w. two-ways h refl }
 
@@ -88,7 +88,8 @@ unfolding inRange
 ranged s = either (least (s .from) (s .value)) (least (s .value) (s .to))
 
 pub lent-long : (l : Lent) → Means (long l) (Shorter l)
-lent-long l = least (l .needs) (length (l .slice))
+lent-long (of-numbers slice needs) = least needs (length slice)
+lent-long (of-bytes slice needs) = least needs (length slice)
 
 pub all-finite : (l : List Float) → Means (allFinite l) (Some NotFinite l)
 unfolding allFinite

@@ -15,16 +15,17 @@ use Rattle.filter.specs.Filters.{sheet, track, filter, nothingKept}
 use Rattle.filter.specs.Calls.{set-x, set-p, set-q, set-params, set-kind, open-prediction, open-correction, open-prediction-stepped, open-correction-stepped, close-prediction, close-correction, close-correction-flat, close-prediction-stepped, close-correction-stepped, close-correction-flat-stepped, Call, writing, setting, stepping, closing, closing-stepped, abandon, reading}
 use Rattle.filter.specs.Steps.{Stepped, step}
 use Rattle.filter.specs.New.{empty, from, newAsks, newOf, newAnswer}
-use Rattle.demands.specs.Sound.{Yielded, fresh-made, stepped-on, put-at-will}
+use Rattle.demands.specs.Sound.{Yielded, fresh-made, loaded, stepped-on, put-at-will}
 use Rattle.demands.specs.Settings.{sheetMarks, marks, Unmarking, with-list, in-steps, SincePredicted, predicted, unmarked, qThen, OfPoints}
 use Rattle.demands.proofs.Rows.{two-ways}
 use Rattle.demands.proofs.Exactly.{ends-so, refused-nothing}
 use Rattle.demands.proofs.Passed.{by-cases}
 use Rattle.demands.proofs.Leftover.{step-cases}
+use Rattle.demands.proofs.Sound.{load-cases}
 use Rattle.demands.proofs.Accepted.{prediction-closed, correction-closed, flat-correction-closed, prediction-opened, correction-opened-afresh, correction-opened, stepped-prediction-opened, stepped-correction-opened-afresh, stepped-correction-opened, stepped-closed, writing-taken, writing-marked, setting-marked}
 
 -- without Q, what is open, what that has drawn and what it keeps
-abbrev bare : Filter → Filter
+abbrev pub bare : Filter → Filter
 bare s = filter (sheet (s .sheet .n) [] (s .sheet .params) (s .sheet .kinds)) (track (s .track .x) (s .track .p) (s .track .weights) (s .track .points) (s .track .stale) Shut [] [] nothingKept)
 
 neither : (a b : Bool) → (a || b) ≡ false → (a ≡ false) × (b ≡ false)
@@ -34,7 +35,7 @@ neither true b e = absurd (two-ways refl e)
 module _ (f : Format) (s : Filter) where
   -- ---- a call that is refused or doesn't mark leaves the rest
 
-  taken-bare : (c : Call) → Unmarking c → step f s c .reply .refusal .number ≡ 0 → bare s ≡ bare (step f s c .filter)
+  pub taken-bare : (c : Call) → Unmarking c → step f s c .reply .refusal .number ≡ 0 → bare s ≡ bare (step f s c .filter)
   taken-bare (setting (set-x v)) u z = absurd (two-ways refl u)
   taken-bare (setting (set-p v)) u z = absurd (two-ways refl u)
   taken-bare (writing (set-q v)) u z = ap bare (sym (writing-taken f s (set-q v) z))
@@ -94,6 +95,7 @@ module _ (f : Format) where
   -- NOTHING BUT Q HAS BEEN SET SINCE
   pub since-predicted : {s : Filter} → Yielded f s → s .track .stale ≡ false → SincePredicted f s
   since-predicted (fresh-made n x p q params) e = absurd (two-ways (new-stale n x p q params) e)
+  since-predicted (loaded b) e = absurd (two-ways (load-cases f b (λ (t : Filter). t .track .stale ≡ true) refl (λ h. refl)) e)
   since-predicted (stepped-on {s = s} y c) e = call-so f s y (λ k. since-predicted y k) c e
   since-predicted (put-at-will t y a) e = absurd (two-ways (a .track .stale₂) e)
 

@@ -1,13 +1,22 @@
--- The invariant: New makes it, every call keeps it, points, weights and scratch put at will keep it; and under it every number handed out is finite. Assumes nothing.
-use Prim.Native.Nat.{ℕ, _+_, _*_, _≤_, zero-le}
-use mathlib.Core.Path.{_≡_, refl, sym, ap}
-use mathlib.Core.Bool.{true}
-use mathlib.Core.List.{List, [], _∷_}
+-- The invariant: New and load make it, every call keeps it, points, weights and scratch put at will keep it; and under it every number handed out is finite. Assumes nothing.
+use Prim.Native.Nat.{ℕ, zero, suc, _+_, _-_, _*_, _≤_, zero-le}
+use mathlib.Core.Path.{_≡_, refl, sym, ap, _∙_}
+use mathlib.Core.Bool.{Bool, true, false}
+use mathlib.Core.List.{List, [], _∷_, _++_}
 use native.Mathlib.Omega.{arith}
 use borrow.Author.Tests.{leb-true}
+use lib.Dec.{leb}
+use lib.ListN.{length, take, drop, getD, replicate, length-append, length-drop, length-replicate}
+use lib.Seq.{length-take-le, drop-at}
 use lib.Ieee.{Float, Format}
-use Rattle.floats.specs.Refusal.{Refusal, Outcome, refused, accepted, or}
+use lib.Ieee.Scale.{finite}
+use Rattle.floats.specs.Refusal.{Refusal, SHORT, Outcome, refused, accepted, or, unless}
 use Rattle.floats.specs.Numbers.{zeros, allFinite}
+use Rattle.floats.specs.Fronts.{over}
+use Rattle.angles.specs.Kinds.{plain, halfOf}
+use Rattle.angles.specs.declared.Kind.{Kind}
+use Rattle.pieces.specs.Bytes.{numberAt, kindAt}
+use Rattle.pieces.proofs.Laws.{length-read}
 use Rattle.matrix.specs.Results.{run}
 use Rattle.sigma.specs.declared.Params.{Params}
 use Rattle.sigma.specs.Weights.{weightsPass}
@@ -15,18 +24,21 @@ use Rattle.sigma.specs.Draw.{pointNumbers}
 use Rattle.filter.specs.declared.Stage.{Stage}
 use Rattle.filter.specs.declared.Stage.the-variants.{PredictingStepped, CorrectingStepped}
 use Rattle.filter.specs.declared.Weighted.{Weighted}
+use Rattle.filter.specs.declared.Sheet.{Sheet}
 use Rattle.filter.specs.declared.Filter.{Filter}
-use Rattle.filter.specs.Asked.{by-params, fit}
+use Rattle.filter.specs.Asked.{by-params, by-kind, fit, every, guarded}
 use Rattle.filter.specs.Filters.{filter, isShut, isStepped, seen, Writing, q-set, params-set, kinds-set, Setting, x-set, p-set, opened-prediction, opened-correction, opened-prediction-stepped, opened-correction-stepped, Change, writes, sets, closes, keeps, abandons, reads, withDrawn, changed}
-use Rattle.filter.specs.Calls.{Call, valuesOf, asks, Done, plan}
+use Rattle.filter.specs.Calls.{Call, halves, valuesOf, asKinds, asks, Done, plan}
 use Rattle.filter.specs.Steps.{outcome, stepped, step}
 use Rattle.filter.specs.New.{freshSheet, freshTrack, empty, from, newAsks, newOf, newAnswer}
+use Rattle.filter.specs.Records.{numbers}
+use Rattle.filter.specs.Load.{turnInputs, statesIn, numbersIn, eachKind, filterIn, loadAsks, loadOf, loadAnswer}
 use Rattle.stepped.proofs.Seen.{stepped-open}
 use Rattle.demands.specs.Runs.{tells, told, Alike}
-use Rattle.demands.specs.Sound.{Filled, Keeps, Sound, Tidy, Reached, made, further, Yielded, fresh-made, stepped-on, put-at-will, handedOut, Each, end, and}
+use Rattle.demands.specs.Sound.{Filled, Keeps, Sound, Tidy, Reached, made, read, further, Yielded, fresh-made, loaded, stepped-on, put-at-will, handedOut, Each, end, and}
 use Rattle.demands.proofs.Rows.{two-ways}
-use Rattle.demands.proofs.Passed.{both, by-cases, run-cases}
-use Rattle.demands.proofs.Arrays.{all-both, filled-front, filled-zeros, filled-all, plain-past}
+use Rattle.demands.proofs.Passed.{both, both-true, Pass, finiteIn, Passed, by-cases, run-cases}
+use Rattle.demands.proofs.Arrays.{all-both, drop-same, drop-zeros, filled-front, filled-zeros, filled-all, plain-past}
 use Rattle.demands.proofs.Fine.{Fine, FineDone, in-range, square-room, fine}
 
 module _ (f : Format) where
@@ -56,8 +68,9 @@ module _ (f : Format) where
   unfolding allFinite
   empty-sound = fresh-sound 0 (zeros 8) (zeros 64) (zeros 64) _ zero-le (filled-zeros 0 8) (filled-zeros 0 64) (filled-zeros 0 64) refl (λ h. absurd (omega arith))
 
-  fresh-tidy : (n : ℕ) (x p q : List Float) (params : Params) → Tidy (filter (freshSheet n q params) (freshTrack x p))
-  fresh-tidy n x p q params = record { points = filled-zeros (pointNumbers n) 136; weights = filled-zeros (n + n + 1) 17; scratch-weights = λ e. refl; scratch-points = λ e. refl; scratch-kept = λ e. refl }
+  -- on any sheet
+  fresh-tidy : (s : Sheet) (x p : List Float) → Tidy (filter s (freshTrack x p))
+  fresh-tidy s x p = record { points = filled-zeros (pointNumbers (s .n)) 136; weights = filled-zeros (s .n + s .n + 1) 17; scratch-weights = λ e. refl; scratch-points = λ e. refl; scratch-kept = λ e. refl }
 
   module _ (n : ℕ) (x p q : List Float) (params : Params) where
     pub new-sound : Sound f (newAnswer f n x p q params .filter)
@@ -75,7 +88,91 @@ module _ (f : Format) where
 
     pub new-tidy : Tidy (newAnswer f n x p q params .filter)
     unfolding newOf
-    new-tidy = by-cases (λ o. Tidy (or empty o)) (λ r. fresh-tidy 0 _ _ _ _) f (newAsks n (from x p ∷ []) q params) _ (λ h. fresh-tidy n _ _ _ params)
+    new-tidy = by-cases (λ o. Tidy (or empty o)) (λ r. fresh-tidy _ _ _) f (newAsks n (from x p ∷ []) q params) _ (λ h. fresh-tidy _ _ _)
+
+  -- ---- load
+
+  -- what is read, over unused places
+  filled-over : (k m : ℕ) (l : List Float) → length l ≡ k → k ≤ m → allFinite (take k (over l (zeros m))) ≡ true → Filled k m (over l (zeros m))
+  filled-over k m l e h a = record {
+    long = length-append l (drop (length l) (zeros m)) ∙ omega (arith, e, length-drop (length l) (zeros m), filled-zeros 0 m .long);
+    bounded = a;
+    unused = drop-at l (drop (length l) (zeros m)) k e ∙ ap (λ (j : ℕ). drop j (zeros m)) e ∙ drop-zeros k m;
+  }
+
+  -- kinds, then plain ones
+  kinds-over : (l : List Kind) (j : ℕ) → Pass finiteIn (turnInputs l) → every (fit f) (asKinds l) ≡ true → (allFinite (halves (l ++ replicate j plain)) ≡ true) × (every (fit f) (asKinds (l ++ replicate j plain)) ≡ true)
+  unfolding allFinite
+  kinds-over [] zero a b = (refl, refl)
+  kinds-over [] (suc j) a b = kinds-over [] j tt refl
+  kinds-over (k ∷ l) j a b =
+      let t = fit f (by-kind k) in
+      let i = kinds-over l j (a .1) (both {a = t} b .1) in
+      (both-true (both {a = finite (halfOf k)} (a .0) .0) (i .0), both-true (both {a = t} b .0) (i .1))
+
+  past-over : (l : List Kind) (j i : ℕ) → length l ≤ i → getD (l ++ replicate j plain) i plain ≡ plain
+  past-over [] j i h = plain-past j i
+  past-over (k ∷ l) j zero h = absurd (omega arith)
+  past-over (k ∷ l) j (suc i) h = past-over l j i (omega arith)
+
+  -- x, P and Q are as long as there are states
+  part-lengths : (b : List ℕ) → let n = statesIn b in let v = numbersIn b in (length (take n v) ≡ n) × (length (take (n * n) (drop n v)) ≡ n * n) × (length (take (n * n) (drop (n * n) (drop n v))) ≡ n * n)
+  part-lengths b =
+      let n = statesIn b in
+      let v = numbersIn b in
+      let l : length v ≡ numbers n = length-read 8 numberAt (numbers n) _ in
+      let p = length-drop n v in
+      let q = length-drop (n * n) (drop n v) in
+      (length-take-le n v (omega (arith, l)), length-take-le (n * n) (drop n v) (omega (arith, l, p)), length-take-le (n * n) (drop (n * n) (drop n v)) (omega (arith, l, p, q)))
+
+  module _ (b : List ℕ) where
+    abbrev kinds : List Kind
+    kinds = eachKind b kindAt
+
+    length-kinds : length kinds ≡ statesIn b
+    length-kinds = length-read 9 kindAt (statesIn b) _
+
+    -- behind the kinds that are read stand plain ones
+    behind : over kinds (replicate 8 plain) ≡ kinds ++ replicate (8 - statesIn b) plain
+    behind = ap (λ (l : List Kind). kinds ++ l) (drop-same (length kinds) 8 plain ∙ ap (λ (j : ℕ). replicate (8 - j) plain) length-kinds)
+
+    taken-sound : Passed f (loadAsks b) → Sound f (filterIn b)
+    taken-sound h =
+        let n = statesIn b in
+        let v = numbersIn b in
+        let small = in-range 1 8 n (h .sizes .0) .1 in
+        let i = h .inputs in
+        let sizes = part-lengths b in
+        let k = kinds-over kinds (8 - n) (i .1 .1 .1 .1) (both {a = fit f (by-params n (filterIn b .sheet .params))} (h .params) .1) in record {
+          small = small;
+          x = filled-over n 8 (take n v) (sizes .0) small (i .0);
+          p = filled-over (n * n) 64 (take (n * n) (drop n v)) (sizes .1) (square-room n small) (i .1 .0);
+          q = filled-over (n * n) 64 (take (n * n) (drop (n * n) (drop n v))) (sizes .2) (square-room n small) (i .1 .1 .0);
+          params = i .1 .1 .1 .0;
+          passed = λ e. both {a = fit f (by-params n (filterIn b .sheet .params))} (h .params) .0;
+          kinds = ap (λ (l : List Kind). allFinite (halves l)) behind ∙ k .0;
+          turns = ap (λ (l : List Kind). every (fit f) (asKinds l)) behind ∙ k .1;
+          eight = ap length behind ∙ length-append kinds (replicate (8 - n) plain) ∙ omega (arith, length-kinds, length-replicate (8 - n) plain, small);
+          past = λ j l. ap (λ (ks : List Kind). getD ks j plain) behind ∙ past-over kinds (8 - n) j (omega (arith, length-kinds, l));
+          current = λ e. absurd (two-ways refl e);
+          drawn = λ e. absurd (two-ways refl e);
+          drawn-from = λ e. absurd (two-ways refl e);
+          kept = λ e. absurd (two-ways e refl);
+        }
+
+    pub load-cases : (P : Filter → Type 0) → P empty → (Passed f (loadAsks b) → P (filterIn b)) → P (loadAnswer b f .filter)
+    unfolding loadOf
+    load-cases P e h = go (leb 3 (length b)) (guarded f (loadAsks b) (accepted (filterIn b))) (by-cases (λ o. P (or empty o)) (λ r. e) f (loadAsks b) _ h)
+      where
+        go : (t : Bool) (o : Outcome Filter) → P (or empty o) → P (or empty (unless t SHORT o))
+        go true o k = k
+        go false o k = e
+
+    pub load-sound : Sound f (loadAnswer b f .filter)
+    load-sound = load-cases (Sound f) empty-sound taken-sound
+
+    pub load-tidy : Tidy (loadAnswer b f .filter)
+    load-tidy = load-cases Tidy (fresh-tidy _ _ _) (λ h. fresh-tidy _ _ _)
 
   -- ---- changes
 
@@ -164,11 +261,13 @@ module _ (f : Format) where
 
   pub sound : {s : Filter} → Yielded f s → Sound f s
   sound (fresh-made n x p q params) = new-sound n x p q params
+  sound (loaded b) = load-sound b
   sound (stepped-on {s = s} y c) = step-sound s c (sound y)
   sound (put-at-will {s = s} t y a) = alike-sound s t (sound y) a
 
   pub tidy : {s : Filter} → Reached f s → Sound f s × Tidy s
   tidy (made n x p q params) = (new-sound n x p q params, new-tidy n x p q params)
+  tidy (read b) = (load-sound b, load-tidy b)
   tidy (further {s = s} r c) = let i = tidy r in (step-sound s c (i .0), step-tidy s c (i .0) (i .1))
 
   -- ---- EVERY NUMBER HANDED OUT IS FINITE

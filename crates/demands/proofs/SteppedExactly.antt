@@ -29,7 +29,7 @@ use Rattle.filter.specs.Filters.{isShut, isPredicting, isCorrecting, isPredicti
 use Rattle.filter.specs.Calls.{CloseCall, close-prediction, close-correction, close-correction-flat, StepCall, ask, image-prediction, image-correction, SteppedClose, close-prediction-stepped, close-correction-stepped, close-correction-flat-stepped, Call, stepping, closing, closing-stepped, abandon, due, ownStepped, fits, sized, named, observedNumbers, asks, plan}
 use Rattle.filter.specs.Steps.{step}
 use Rattle.filter.proofs.Sizes.{every-append}
-use Rattle.demands.specs.Rows.{steppedAsks, FirstBad, searches, IsOpen, Free, Some, here, there, OutOfRange, Cause, stage, size, short, stale, kind, param, met, Applies, rank, Due}
+use Rattle.demands.specs.Rows.{steppedAsks, FirstBad, searches, IsOpen, Free, Some, here, there, OutOfRange, Cause, stage, size, short, form, stale, fresh, kind, param, met, Applies, rank, Due}
 use Rattle.demands.specs.Rows as Row
 use Rattle.demands.specs.Sound.{Sound}
 use Rattle.matrix.proofs.Flat.{split}
@@ -44,12 +44,12 @@ use Rattle.demands.proofs.Arrays.{all-front, filled-all}
 use Rattle.demands.proofs.Fine.{in-range, points-room}
 
 -- two calls whose tests agree once sizes pass come to the same
-sized-agree : {A : Type 0} (f : Format) (a c : Asks) (o : Outcome A) → a .fits ≡ c .fits → a .sizes ≡ c .sizes → (every within (a .sizes) ≡ true → (every long (a .lent) ≡ every long (c .lent)) × (searched (a .inputs) ≡ searched (c .inputs))) → a .stale ≡ c .stale → a .plain ≡ c .plain → a .params ≡ c .params → guarded f a o ≡ guarded f c o
+sized-agree : {A : Type 0} (f : Format) (a c : Asks) (o : Outcome A) → a .fits ≡ c .fits → a .sizes ≡ c .sizes → (every within (a .sizes) ≡ true → (every long (a .lent) ≡ every long (c .lent)) × (searched (a .inputs) ≡ searched (c .inputs))) → a .formed ≡ c .formed → a .stale ≡ c .stale → a .fresh ≡ c .fresh → a .plain ≡ c .plain → a .params ≡ c .params → guarded f a o ≡ guarded f c o
 unfolding guarded
-sized-agree f a c o e₁ e₂ h e₄ e₆ e₇ = go (every within (a .sizes)) refl
+sized-agree f a c o e₁ e₂ h e₃ e₄ e₅ e₆ e₇ = go (every within (a .sizes)) refl
   where
     go : (t : Bool) → every within (a .sizes) ≡ t → guarded f a o ≡ guarded f c o
-    go true s = let w = h s in rw (e₁, e₂, w .0, e₄, w .1, e₆, e₇)
+    go true s = let w = h s in rw (e₁, e₂, w .0, e₃, e₄, e₅, w .1, e₆, e₇)
     go false s = rw (e₁, e₂, ap (every within) (sym e₂) ∙ s)
 
 module _ (f : Format) (s : Filter) (o : Sound f s) where
@@ -86,9 +86,9 @@ module _ (f : Format) (s : Filter) (o : Sound f s) where
   noise-first r k l = ap (λ (q : Outcome Bool). onward (searchedFrom Noise 0 r) (λ (t : Bool). q)) (unsearched k l)
 
   listless : {A : Type 0} (c : SteppedClose) (q : Outcome A) → guarded f (asks (seen s) (closing-stepped c)) q ≡ guarded f (steppedAsks (seen s) c) q
-  listless close-prediction-stepped q = sized-agree f _ _ q refl refl (λ h. (rw (enough (pointNumbers (s .sheet .n)) (points-room (s .sheet .n) (o .small))), unsearched (pointNumbers (s .sheet .n)) [])) refl refl refl
-  listless (close-correction-stepped m z r kinds) q = sized-agree f _ _ q refl refl (λ h. (rw (enough (observedNumbers (s .sheet .n) m) (measured-room m h)), noise-first (take (m * m) r) (observedNumbers (s .sheet .n) m) _)) refl refl refl
-  listless (close-correction-flat-stepped m z r) q = sized-agree f _ _ q refl refl (λ h. (rw (enough (observedNumbers (s .sheet .n) m) (measured-room m h)), noise-first (take (m * m) r) (observedNumbers (s .sheet .n) m) _)) refl refl refl
+  listless close-prediction-stepped q = sized-agree f _ _ q refl refl (λ h. (rw (enough (pointNumbers (s .sheet .n)) (points-room (s .sheet .n) (o .small))), unsearched (pointNumbers (s .sheet .n)) [])) refl refl refl refl refl
+  listless (close-correction-stepped m z r kinds) q = sized-agree f _ _ q refl refl (λ h. (rw (enough (observedNumbers (s .sheet .n) m) (measured-room m h)), noise-first (take (m * m) r) (observedNumbers (s .sheet .n) m) _)) refl refl refl refl refl
+  listless (close-correction-flat-stepped m z r) q = sized-agree f _ _ q refl refl (λ h. (rw (enough (observedNumbers (s .sheet .n) m) (measured-room m h)), noise-first (take (m * m) r) (observedNumbers (s .sheet .n) m) _)) refl refl refl refl refl
 
   module _ (c : SteppedClose) where
     told-so : step f s (closing-stepped c) .reply .refusal ≡ refusal (guarded f (steppedAsks (seen s) c) (run (plan f (seen s) (closing-stepped c))))
@@ -162,7 +162,7 @@ module _ (f : Format) (s : Filter) where
   past-the-last h (image-correction m v) = unfit (stepping (image-correction m v)) (rw (lt-leb _ _ h) (and-false (isCorrectingStepped (s .track .stage))))
 
   -- a bad number of an image
-  pub bad-image : (c : Call) → (IsOpen c → ⊥) → (i : ℕ) → Free f 4 s c → FirstBad Points i (searches s c) → (step f s c .reply .refusal ≡ verdict (NUMBER Points i)) × (step f s c .filter ≡ s)
+  pub bad-image : (c : Call) → (IsOpen c → ⊥) → (i : ℕ) → Free f 6 s c → FirstBad Points i (searches s c) → (step f s c .reply .refusal ≡ verdict (NUMBER Points i)) × (step f s c .filter ≡ s)
   bad-image c n i h w = let e = number-exactly f s c n Points i .1 (h, w) in (e, refused-nothing f s c (λ z. omega (arith, number-above (NUMBER Points i), number-of e, z)) .0)
 
   pub abandon-taken : isShut (s .track .stage) ≡ false → inRange 1 8 (s .sheet .n) ≡ true → step f s abandon .reply .refusal ≡ taken
@@ -182,7 +182,9 @@ module _ (f : Format) (s : Filter) where
         only stage l x = two-ways (regular f (seen s) c .fitting ∙ fits-seen s c ∙ h) x
         only size l x = absurd (omega arith)
         only short l x = absurd (omega arith)
+        only form l x = absurd (omega arith)
         only stale l x = absurd (omega arith)
+        only fresh l x = absurd (omega arith)
         only (Row.number t i) l x = absurd (omega arith)
         only kind l x = absurd (omega arith)
         only param l x = absurd (omega arith)

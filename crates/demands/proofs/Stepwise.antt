@@ -18,7 +18,6 @@ use Rattle.floats.specs.Numbers.{zeros, allFinite}
 use Rattle.floats.specs.Fronts.{front}
 use Rattle.floats.proofs.Fronts.{front-none, length-front}
 use Rattle.floats.proofs.Refusals.{number-above}
-use Rattle.angles.specs.Kinds.{isPlain}
 use Rattle.matrix.specs.Results.{Plan, finish, run, mapped}
 use Rattle.matrix.proofs.Cells.{length-zeros}
 use Rattle.sigma.specs.Draw.{pointNumbers}
@@ -32,7 +31,7 @@ use Rattle.filter.specs.declared.Sheet.{Sheet}
 use Rattle.filter.specs.declared.Weighted.{Weighted}
 use Rattle.filter.specs.declared.Filter.{Filter}
 use Rattle.filter.specs.declared.Answer.{Answer}
-use Rattle.filter.specs.Asked.{Asks, inRange, within, long, fit, every, guarded}
+use Rattle.filter.specs.Asked.{Asks, inRange, within, long, every, guarded}
 use Rattle.filter.specs.Filters.{filter, close, isPredictingStepped, isCorrectingStepped, isStepped, keeping, nothingKept, seen, Setting, opened-prediction, opened-correction, opened-correction-stepped, withDrawn, withKept}
 use Rattle.filter.specs.Calls.{open-correction-stepped, ask, image-prediction, image-correction, SteppedClose, close-prediction-stepped, close-correction-stepped, close-correction-flat-stepped, withList, Call, setting, stepping, closing, closing-stepped, CloseCall, fits, halves, named, namedBy, asks, Done, opened, openedStepped, askedFor, handedIn, closed, closePlan, plan}
 use Rattle.filter.specs.Steps.{Stepped, stepped, step, answered}
@@ -41,8 +40,8 @@ use Rattle.stepped.proofs.Seen.{fits-seen, asked-is, predicted-is, observed-is,
 use Rattle.stepped.proofs.Ways.{not-zero, opens-prediction, opens-correction, closes-whole}
 use Rattle.demands.specs.Rounds.{steppedOpen, wholeOpen, imageNumbers, handing, Measured, Images, rounds}
 use Rattle.demands.specs.Runs.{ranTo}
-use Rattle.demands.proofs.Passed.{both, both-true, finiteIn, Pass, Passed, by-cases, run-cases}
-use Rattle.demands.proofs.Places.{finite-searched}
+use Rattle.demands.proofs.Passed.{both, both-true, Pass, Passed, by-cases, run-cases}
+use Rattle.demands.proofs.Places.{passes, agrees}
 use Rattle.demands.proofs.Turned.{in-range-is}
 use Rattle.demands.proofs.Table.{Own, regular, taken-fits}
 use Rattle.demands.proofs.Leftover.{ran-append}
@@ -76,17 +75,6 @@ part-same a d n l h =
 pub part-in : (n d k : ℕ) → k ≤ n + n → k * d + d ≤ (n + n + 1) * d
 part-in n d k h = let i : (k + 1) * d ≤ (n + n + 1) * d = mul-le-mul-right d (let j : k + 1 ≤ n + n + 1 = omega arith in j) in omega arith
 
--- ---- a call whose tests pass is what its plan comes to; two whose tests agree come to the same
-
-module _ {A : Type 0} (f : Format) (a : Asks) (o : Outcome A) where
-  passes : a .fits ≡ true → every within (a .sizes) ≡ true → every long (a .lent) ≡ true → a .stale ≡ false → Pass finiteIn (a .inputs) → every isPlain (a .plain) ≡ true → every (fit f) (a .params) ≡ true → guarded f a o ≡ o
-  unfolding guarded
-  passes e₁ e₂ e₃ e₄ e₅ e₆ e₇ = rw (e₁, e₂, e₃, e₄, finite-searched (a .inputs) e₅, e₆, e₇)
-
-  agrees : (c : Asks) → a .fits ≡ c .fits → every within (a .sizes) ≡ every within (c .sizes) → every long (a .lent) ≡ every long (c .lent) → a .stale ≡ c .stale → searched (a .inputs) ≡ searched (c .inputs) → a .plain ≡ c .plain → a .params ≡ c .params → guarded f a o ≡ guarded f c o
-  unfolding guarded
-  agrees c e₁ e₂ e₃ e₄ e₅ e₆ e₇ = rw (e₁, e₂, e₃, e₄, e₅, e₆, e₇)
-
 -- ---- what an ask and an image do, where nothing refuses them
 
 module _ (f : Format) (s : Filter) (states : inRange 1 8 (s .sheet .n) ≡ true) where
@@ -97,18 +85,18 @@ module _ (f : Format) (s : Filter) (states : inRange 1 8 (s .sheet .n) ≡ true)
   pub asked : (b : List Float) → fits (stepping (ask b)) s ≡ true → s .sheet .n ≤ length b → step f s (stepping (ask b)) ≡ stepped s (accepted (pointAsked f s))
   asked b h l =
       let c = stepping (ask b) in
-      finished c (pointAsked f s) (passes f (asks (seen s) c) (run (plan f (seen s) c)) (fits-seen s c ∙ h) (both-true states refl) (both-true (le-leb _ _ l) refl) refl tt refl refl) (asked-is f s b (both {a = isStepped (s .track .stage)} h .0))
+      finished c (pointAsked f s) (passes f (asks (seen s) c) (run (plan f (seen s) c)) (fits-seen s c ∙ h) (both-true states refl) (both-true (le-leb _ _ l) refl) refl refl refl tt refl refl) (asked-is f s b (both {a = isStepped (s .track .stage)} h .0))
 
   handed-prediction : (v : List Float) → fits (stepping (image-prediction v)) s ≡ true → s .sheet .n ≤ length v → allFinite (take (s .sheet .n) v) ≡ true → step f s (stepping (image-prediction v)) ≡ stepped s (accepted (imageIn f s 0 (s .sheet .n) v))
   handed-prediction v h l b =
       let c = stepping (image-prediction v) in
-      finished c (imageIn f s 0 (s .sheet .n) v) (passes f (asks (seen s) c) (run (plan f (seen s) c)) (fits-seen s c ∙ h) (both-true states refl) (both-true (le-leb _ _ l) refl) refl (b, tt) refl refl) (predicted-is f s v (both {a = isPredictingStepped (s .track .stage)} h .0))
+      finished c (imageIn f s 0 (s .sheet .n) v) (passes f (asks (seen s) c) (run (plan f (seen s) c)) (fits-seen s c ∙ h) (both-true states refl) (both-true (le-leb _ _ l) refl) refl refl refl (b, tt) refl refl) (predicted-is f s v (both {a = isPredictingStepped (s .track .stage)} h .0))
 
   handed-correction : (m : ℕ) (v : List Float) → fits (stepping (image-correction m v)) s ≡ true → (1 ≤ m) × (m ≤ 4) → every within (named (s .track .kept) m) ≡ true → m ≤ length v → allFinite (take m v) ≡ true → step f s (stepping (image-correction m v)) ≡ stepped s (accepted (imageIn f s m m v))
   handed-correction m v h i j l b =
       let c = stepping (image-correction m v) in
       let sizes = subst (λ (a : Asks). every within (a .sizes) ≡ true) (observed-asks f s m v h) (both-true states (both-true (in-range-is 1 4 m i) j)) in
-      finished c (imageIn f s m m v) (passes f (asks (seen s) c) (run (plan f (seen s) c)) (fits-seen s c ∙ h) sizes (both-true (le-leb _ _ l) refl) refl (b, tt) refl refl) (observed-is f s m v (both {a = isCorrectingStepped (s .track .stage)} h .0))
+      finished c (imageIn f s m m v) (passes f (asks (seen s) c) (run (plan f (seen s) c)) (fits-seen s c ∙ h) sizes (both-true (le-leb _ _ l) refl) refl refl refl (b, tt) refl refl) (observed-is f s m v (both {a = isCorrectingStepped (s .track .stage)} h .0))
 
 -- ---- THE IMAGES SO FAR ARE THE FRONT OF THEIR LIST
 
@@ -201,12 +189,12 @@ module _ (f : Format) (s : Filter) (v w : List Float) where
       ap (λ (l : List Float). mapped (closed (s .track .«drawn_weights») (s .track .«drawn_points») true) (applyPlan f (flatHead f (s .sheet .n) m (s .track .x) (s .track .p) (s .track .«drawn_points») l (front m z (zeros 8)) (front (m * m) r (zeros 64))))) (front-same _ (h .2))
 
   asks-same : {A : Type 0} (c : SteppedClose) (o : Outcome A) → Same c → guarded f (asks s (closing (withList c v))) o ≡ guarded f (asks s (closing (withList c w))) o
-  asks-same close-prediction-stepped o h = agrees f _ o _ refl refl (ap (λ (t : Bool). t && true) (long-same _ (h .0) (h .1))) refl (ap (λ (l : List Float). searched (input Points l)) (h .2)) refl refl
+  asks-same close-prediction-stepped o h = agrees f _ o _ refl refl (ap (λ (t : Bool). t && true) (long-same _ (h .0) (h .1))) refl refl refl (ap (λ (l : List Float). searched (input Points l)) (h .2)) refl refl
   asks-same (close-correction-stepped m z r kinds) o h =
-      agrees f _ o _ refl refl (ap (λ (t : Bool). leb m (length z) && (leb (m * m) (length r) && (t && true))) (long-same _ (h .0) (h .1))) refl
+      agrees f _ o _ refl refl (ap (λ (t : Bool). leb m (length z) && (leb (m * m) (length r) && (t && true))) (long-same _ (h .0) (h .1))) refl refl refl
       (ap (λ (l : List Float). searched (input Noise (take (m * m) r) ++ (input Points l ++ (input Measurement (take m z) ++ input Lone (halves (take m kinds)))))) (h .2)) refl refl
   asks-same (close-correction-flat-stepped m z r) o h =
-      agrees f _ o _ refl refl (ap (λ (t : Bool). leb m (length z) && (leb (m * m) (length r) && (t && true))) (long-same _ (h .0) (h .1))) refl
+      agrees f _ o _ refl refl (ap (λ (t : Bool). leb m (length z) && (leb (m * m) (length r) && (t && true))) (long-same _ (h .0) (h .1))) refl refl refl
       (ap (λ (l : List Float). searched (input Noise (take (m * m) r) ++ (input Points l ++ (input Measurement (take m z) ++ input Lone [])))) (h .2)) refl refl
 
 -- so two lists that agree so far are one

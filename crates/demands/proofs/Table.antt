@@ -7,7 +7,7 @@ use mathlib.Core.Logic.{_↔_, _≢_, _⊎_, inl, inr, ⊎-elim}
 use native.Mathlib.Omega.{arith}
 use lib.Ieee.{Float, Format}
 use lib.Ieee.Scale.{finite}
-use Rattle.floats.specs.Refusal.{Refusal, SIZE, SHORT, STAGE, STALE, NUMBER, PARAM, PIVOT, INNOV, RANGE, KIND, badLone, verdict, accepted, refusal, unless, onward, nothing}
+use Rattle.floats.specs.Refusal.{Refusal, SIZE, SHORT, STAGE, STALE, NUMBER, PARAM, PIVOT, INNOV, RANGE, KIND, FRESH, RECORD, badLone, verdict, accepted, refusal, unless, onward, nothing}
 use Rattle.floats.specs.Search.{searched, searchedFrom}
 use Rattle.floats.proofs.Refusals.{number-of, named}
 use Rattle.floats.specs.Numbers.{zeros}
@@ -21,12 +21,12 @@ use Rattle.filter.specs.declared.Filter.{Filter}
 use Rattle.filter.specs.Asked.{Size, within, inOrder, guarded}
 use Rattle.filter.specs.declared.Kept.{Kept}
 use Rattle.filter.specs.Filters.{isShut, seen, Writing, Setting, Closing, Change, writes, sets, closes, keeps, abandons, reads}
-use Rattle.filter.specs.Calls.{set-x, set-p, set-q, set-params, set-kind, open-prediction, open-correction, open-prediction-stepped, open-correction-stepped, ask, image-prediction, image-correction, CloseCall, close-prediction, close-correction, close-correction-flat, close-prediction-stepped, close-correction-stepped, close-correction-flat-stepped, withList, read-x, read-p, read-q, read-points, read-params, read-stale, Call, writing, setting, stepping, closing, closing-stepped, abandon, reading, fits, closeNeeds, asks, Done, closed, plan, weightedFrom, flatFrom}
+use Rattle.filter.specs.Calls.{set-x, set-p, set-q, set-params, set-kind, open-prediction, open-correction, open-prediction-stepped, open-correction-stepped, ask, image-prediction, image-correction, CloseCall, close-prediction, close-correction, close-correction-flat, close-prediction-stepped, close-correction-stepped, close-correction-flat-stepped, withList, read-x, read-p, read-q, read-points, read-params, read-stale, save, Call, writing, setting, stepping, closing, closing-stepped, abandon, reading, fits, closeNeeds, asks, Done, closed, plan, weightedFrom, flatFrom}
 use Rattle.filter.specs.Steps.{step}
 use Rattle.filter.proofs.Closing.{predicting}
 use Rattle.stepped.proofs.Seen.{fits-seen}
 use Rattle.stepped.proofs.Ways.{images-seen}
-use Rattle.demands.specs.Rows.{Some, here, OutOfRange, closeSearches, searches, Ascending, IsTurn, of-prediction, of-correction, of-prediction-stepped, of-correction-stepped, of-either, of-stepped, by-weights, by-averages, by-weights-stepped, by-averages-stepped, IsFlat, flat, flat-stepped, FirstFails, Cause, stage, size, short, stale, kind, param, met, gives, Applies, rank, ByStep}
+use Rattle.demands.specs.Rows.{Some, here, OutOfRange, closeSearches, searches, Ascending, IsTurn, of-prediction, of-correction, of-prediction-stepped, of-correction-stepped, of-either, of-stepped, by-weights, by-averages, by-weights-stepped, by-averages-stepped, IsFlat, flat, flat-stepped, IsSave, saves, FirstFails, Cause, stage, size, short, form, stale, fresh, kind, param, met, gives, Applies, rank, ByStep}
 use Rattle.demands.specs.Rows as Row
 use Rattle.demands.specs.Sound.{end, and}
 use Rattle.demands.proofs.Rows.{two-ways, passes-where, none, ranged}
@@ -45,12 +45,13 @@ Own (closing-stepped c) d = (u : Closing) × (d ≡ closes u)
 Own abandon d = d ≡ abandons
 Own (reading c) d = d ≡ reads
 
--- a call asks that it fits what is open and that there are 1 to 8 states; no kind has to be plain but in a flat close, either way; its steps give what is theirs; and it makes a change of its own sort
+-- a call asks that it fits what is open and that there are 1 to 8 states; no kind has to be plain but in a flat close, either way, and only save asks for a stale filter; its steps give what is theirs; and it makes a change of its own sort
 pub record Regular (f : Format) (s : Filter) (c : Call) : Type 0 where
   pub fitting : asks s c .fits ≡ fits c s
   pub others : List Size
   pub states : asks s c .sizes ≡ record { value = s .sheet .n; from = 1; to = 8 } ∷ others
   pub only : Some IsTurn (asks s c .plain) → IsFlat c
+  pub stale-only : asks s c .fresh ≡ true → IsSave c
   pub met : StepsOwn c (planned (plan f s c))
   pub change : Ran (plan f s c) (λ (d : Done). Own c (d .change))
 
@@ -59,36 +60,37 @@ own-either c true e = e
 own-either c false e = end
 
 module _ (f : Format) (s : Filter) where
-  lined : {c : Call} {others : List Size} → asks s c .fits ≡ fits c s → asks s c .sizes ≡ record { value = s .sheet .n; from = 1; to = 8 } ∷ others → (asks s c .plain ≡ []) ⊎ IsFlat c → StepsOwn c (planned (plan f s c))
+  lined : {c : Call} {others : List Size} → asks s c .fits ≡ fits c s → asks s c .sizes ≡ record { value = s .sheet .n; from = 1; to = 8 } ∷ others → (asks s c .plain ≡ []) ⊎ IsFlat c → (asks s c .fresh ≡ false) ⊎ IsSave c → StepsOwn c (planned (plan f s c))
       → Ran (plan f s c) (λ (d : Done). Own c (d .change)) → Regular f s c
-  lined {c} {others} a b k m d = record { fitting = a; others = others; states = b; only = λ w. ⊎-elim (λ e. absurd (none (subst (Some IsTurn) e w))) (λ y. y) k; met = m; change = d }
+  lined {c} {others} a b k u m d = record { fitting = a; others = others; states = b; only = λ w. ⊎-elim (λ e. absurd (none (subst (Some IsTurn) e w))) (λ y. y) k; stale-only = λ w. ⊎-elim (λ e. absurd (two-ways w e)) (λ y. y) u; met = m; change = d }
 
   pub regular : (c : Call) → Regular f s c
-  regular (writing (set-q v)) = lined refl refl (inl refl) end (ran-finish _ _ (_, refl))
-  regular (writing (set-params p)) = lined refl refl (inl refl) end (ran-finish _ _ (_, refl))
-  regular (writing (set-kind i k)) = lined refl refl (inl refl) end (ran-finish _ _ (_, refl))
-  regular (setting (set-x v)) = lined refl refl (inl refl) end (ran-finish _ _ (_, refl))
-  regular (setting (set-p v)) = lined refl refl (inl refl) end (ran-finish _ _ (_, refl))
-  regular (setting (open-prediction b)) = lined refl refl (inl refl) (rw (open-prediction-lists f s b) (draw-own _ f of-prediction (s .sheet .n) _ _ _)) (ran-mapped _ _ (drawing f s) (λ a e. (_, refl)))
-  regular (setting (open-correction b)) = lined refl refl (inl refl) (rw (open-correction-lists f s b) (own-either _ (s .track .stale) (draw-own _ f of-correction (s .sheet .n) _ _ _))) (ran-either _ (s .track .stale) _ _ (λ t. ran-mapped _ _ (drawing f s) (λ a e. (_, refl))) (λ t. ran-finish _ _ (_, refl)))
-  regular (setting open-prediction-stepped) = lined refl refl (inl refl) (rw (open-prediction-stepped-lists f s) (draw-own _ f of-prediction-stepped (s .sheet .n) _ _ _)) (ran-mapped _ _ (drawing f s) (λ a e. (_, refl)))
-  regular (setting open-correction-stepped) = lined refl refl (inl refl) (rw (open-correction-stepped-lists f s) (own-either _ (s .track .stale) (draw-own _ f of-correction-stepped (s .sheet .n) _ _ _))) (ran-either _ (s .track .stale) _ _ (λ t. ran-mapped _ _ (drawing f s) (λ a e. (_, refl))) (λ t. ran-finish _ _ (_, refl)))
-  regular (stepping (ask b)) = lined refl refl (inl refl) end (ran-finish _ _ (_, refl))
-  regular (stepping (image-prediction v)) = lined refl refl (inl refl) end (ran-finish _ _ (_, refl))
-  regular (stepping (image-correction m v)) = lined refl refl (inl refl) end (ran-finish _ _ (_, refl))
-  regular (closing (close-prediction v)) = lined refl refl (inl refl) (rw (close-prediction-lists f s v) (and (inr of-either) (and (inr of-either) end))) (ran-mapped _ (closed (s .track .«drawn_weights») (front (pointNumbers (s .sheet .n)) v (zeros 136)) false) (predicting f s v) (λ a e. (_, refl)))
-  regular (closing (close-correction m z r kinds observed)) = lined refl refl (inl refl) (rw (close-correction-lists f s m z r kinds observed) (correct-own _ f of-either by-weights (weightedFrom f s m z r kinds observed))) (ran-mapped _ (closed (s .track .«drawn_weights») (s .track .«drawn_points») true) (applyPlan f (weightedFrom f s m z r kinds observed)) (λ a e. (_, refl)))
-  regular (closing (close-correction-flat m z r observed)) = lined refl refl (inr flat) (rw (close-correction-flat-lists f s m z r observed) (correct-own _ f of-either by-averages (flatFrom f s m z r observed))) (ran-mapped _ (closed (s .track .«drawn_weights») (s .track .«drawn_points») true) (applyPlan f (flatFrom f s m z r observed)) (λ a e. (_, refl)))
-  regular (closing-stepped close-prediction-stepped) = lined refl refl (inl refl) (rw (close-prediction-lists f s (s .track .kept .images)) (and (inr of-stepped) (and (inr of-stepped) end))) (ran-mapped _ (closed (s .track .«drawn_weights») (front (pointNumbers (s .sheet .n)) (s .track .kept .images) (zeros 136)) false) (predicting f s (s .track .kept .images)) (λ a e. (_, refl)))
-  regular (closing-stepped (close-correction-stepped m z r kinds)) = let h = weightedFrom f s m z r kinds (s .track .kept .images) in lined refl refl (inl refl) (rw (close-correction-lists f s m z r kinds (s .track .kept .images)) (correct-own _ f of-stepped by-weights-stepped h)) (ran-mapped _ (closed (s .track .«drawn_weights») (s .track .«drawn_points») true) (applyPlan f h) (λ a e. (_, refl)))
-  regular (closing-stepped (close-correction-flat-stepped m z r)) = let h = flatFrom f s m z r (s .track .kept .images) in lined refl refl (inr flat-stepped) (rw (close-correction-flat-lists f s m z r (s .track .kept .images)) (correct-own _ f of-stepped by-averages-stepped h)) (ran-mapped _ (closed (s .track .«drawn_weights») (s .track .«drawn_points») true) (applyPlan f h) (λ a e. (_, refl)))
-  regular abandon = lined refl refl (inl refl) end (ran-finish _ _ refl)
-  regular (reading (read-x b)) = lined refl refl (inl refl) end (ran-finish _ _ refl)
-  regular (reading (read-p b)) = lined refl refl (inl refl) end (ran-finish _ _ refl)
-  regular (reading (read-q b)) = lined refl refl (inl refl) end (ran-finish _ _ refl)
-  regular (reading (read-points b)) = lined refl refl (inl refl) end (ran-finish _ _ refl)
-  regular (reading read-params) = lined refl refl (inl refl) end (ran-finish _ _ refl)
-  regular (reading read-stale) = lined refl refl (inl refl) end (ran-finish _ _ refl)
+  regular (writing (set-q v)) = lined refl refl (inl refl) (inl refl) end (ran-finish _ _ (_, refl))
+  regular (writing (set-params p)) = lined refl refl (inl refl) (inl refl) end (ran-finish _ _ (_, refl))
+  regular (writing (set-kind i k)) = lined refl refl (inl refl) (inl refl) end (ran-finish _ _ (_, refl))
+  regular (setting (set-x v)) = lined refl refl (inl refl) (inl refl) end (ran-finish _ _ (_, refl))
+  regular (setting (set-p v)) = lined refl refl (inl refl) (inl refl) end (ran-finish _ _ (_, refl))
+  regular (setting (open-prediction b)) = lined refl refl (inl refl) (inl refl) (rw (open-prediction-lists f s b) (draw-own _ f of-prediction (s .sheet .n) _ _ _)) (ran-mapped _ _ (drawing f s) (λ a e. (_, refl)))
+  regular (setting (open-correction b)) = lined refl refl (inl refl) (inl refl) (rw (open-correction-lists f s b) (own-either _ (s .track .stale) (draw-own _ f of-correction (s .sheet .n) _ _ _))) (ran-either _ (s .track .stale) _ _ (λ t. ran-mapped _ _ (drawing f s) (λ a e. (_, refl))) (λ t. ran-finish _ _ (_, refl)))
+  regular (setting open-prediction-stepped) = lined refl refl (inl refl) (inl refl) (rw (open-prediction-stepped-lists f s) (draw-own _ f of-prediction-stepped (s .sheet .n) _ _ _)) (ran-mapped _ _ (drawing f s) (λ a e. (_, refl)))
+  regular (setting open-correction-stepped) = lined refl refl (inl refl) (inl refl) (rw (open-correction-stepped-lists f s) (own-either _ (s .track .stale) (draw-own _ f of-correction-stepped (s .sheet .n) _ _ _))) (ran-either _ (s .track .stale) _ _ (λ t. ran-mapped _ _ (drawing f s) (λ a e. (_, refl))) (λ t. ran-finish _ _ (_, refl)))
+  regular (stepping (ask b)) = lined refl refl (inl refl) (inl refl) end (ran-finish _ _ (_, refl))
+  regular (stepping (image-prediction v)) = lined refl refl (inl refl) (inl refl) end (ran-finish _ _ (_, refl))
+  regular (stepping (image-correction m v)) = lined refl refl (inl refl) (inl refl) end (ran-finish _ _ (_, refl))
+  regular (closing (close-prediction v)) = lined refl refl (inl refl) (inl refl) (rw (close-prediction-lists f s v) (and (inr of-either) (and (inr of-either) end))) (ran-mapped _ (closed (s .track .«drawn_weights») (front (pointNumbers (s .sheet .n)) v (zeros 136)) false) (predicting f s v) (λ a e. (_, refl)))
+  regular (closing (close-correction m z r kinds observed)) = lined refl refl (inl refl) (inl refl) (rw (close-correction-lists f s m z r kinds observed) (correct-own _ f of-either by-weights (weightedFrom f s m z r kinds observed))) (ran-mapped _ (closed (s .track .«drawn_weights») (s .track .«drawn_points») true) (applyPlan f (weightedFrom f s m z r kinds observed)) (λ a e. (_, refl)))
+  regular (closing (close-correction-flat m z r observed)) = lined refl refl (inr flat) (inl refl) (rw (close-correction-flat-lists f s m z r observed) (correct-own _ f of-either by-averages (flatFrom f s m z r observed))) (ran-mapped _ (closed (s .track .«drawn_weights») (s .track .«drawn_points») true) (applyPlan f (flatFrom f s m z r observed)) (λ a e. (_, refl)))
+  regular (closing-stepped close-prediction-stepped) = lined refl refl (inl refl) (inl refl) (rw (close-prediction-lists f s (s .track .kept .images)) (and (inr of-stepped) (and (inr of-stepped) end))) (ran-mapped _ (closed (s .track .«drawn_weights») (front (pointNumbers (s .sheet .n)) (s .track .kept .images) (zeros 136)) false) (predicting f s (s .track .kept .images)) (λ a e. (_, refl)))
+  regular (closing-stepped (close-correction-stepped m z r kinds)) = let h = weightedFrom f s m z r kinds (s .track .kept .images) in lined refl refl (inl refl) (inl refl) (rw (close-correction-lists f s m z r kinds (s .track .kept .images)) (correct-own _ f of-stepped by-weights-stepped h)) (ran-mapped _ (closed (s .track .«drawn_weights») (s .track .«drawn_points») true) (applyPlan f h) (λ a e. (_, refl)))
+  regular (closing-stepped (close-correction-flat-stepped m z r)) = let h = flatFrom f s m z r (s .track .kept .images) in lined refl refl (inr flat-stepped) (inl refl) (rw (close-correction-flat-lists f s m z r (s .track .kept .images)) (correct-own _ f of-stepped by-averages-stepped h)) (ran-mapped _ (closed (s .track .«drawn_weights») (s .track .«drawn_points») true) (applyPlan f h) (λ a e. (_, refl)))
+  regular abandon = lined refl refl (inl refl) (inl refl) end (ran-finish _ _ refl)
+  regular (reading (read-x b)) = lined refl refl (inl refl) (inl refl) end (ran-finish _ _ refl)
+  regular (reading (read-p b)) = lined refl refl (inl refl) (inl refl) end (ran-finish _ _ refl)
+  regular (reading (read-q b)) = lined refl refl (inl refl) (inl refl) end (ran-finish _ _ refl)
+  regular (reading (read-points b)) = lined refl refl (inl refl) (inl refl) end (ran-finish _ _ refl)
+  regular (reading read-params) = lined refl refl (inl refl) (inl refl) end (ran-finish _ _ refl)
+  regular (reading read-stale) = lined refl refl (inl refl) (inl refl) end (ran-finish _ _ refl)
+  regular (reading (save b)) = lined refl refl (inl refl) (inr saves) end (ran-finish _ _ refl)
 
 -- what a call searches
 close-searches-so : (s : Filter) (c : CloseCall) → closeNeeds (s .sheet) c .inputs ≡ closeSearches (s .sheet .n) c
@@ -118,6 +120,7 @@ searches-so s (reading (read-q b)) = refl
 searches-so s (reading (read-points b)) = refl
 searches-so s (reading read-params) = refl
 searches-so s (reading read-stale) = refl
+searches-so s (reading (save b)) = refl
 
 -- what is kept of images is searched where it is seen
 pub images-searched : (s : Filter) (c : Call) → fits c s ≡ true → searches (seen s) c ≡ searches s c
@@ -169,7 +172,9 @@ abbrev pub row : Refusal → Cause
 row SIZE = size
 row SHORT = short
 row STAGE = stage
+row RECORD = form
 row STALE = stale
+row FRESH = fresh
 row (NUMBER s i) = Row.number s i
 row KIND = kind
 row PARAM = param
@@ -200,7 +205,9 @@ module _ (f : Format) (s : Filter) (c : Call) where
       go stage e x w = subst ByRow e (x, w)
       go size e x w = subst ByRow e (x, w)
       go short e x w = subst ByRow e (x, w)
+      go form e x w = subst ByRow e (x, w)
       go stale e x w = subst ByRow e (x, w)
+      go fresh e x w = subst ByRow e (x, w)
       go (Row.number t i) e x w = subst ByRow e (x, w)
       go kind e x w = subst ByRow e (x, w)
       go param e x w = subst ByRow e (x, w)
@@ -227,6 +234,15 @@ module _ (f : Format) (s : Filter) (c : Call) where
   unfolding named
   kind-only e = regular f (seen s) c .only (by-row KIND (λ b. b) (as-refused f s c (omega arith) e .1) .0)
 
+  -- 11 is given by save alone, and 12 by no call on a filter
+  pub fresh-only : step f s c .reply .refusal .number ≡ 11 → IsSave c
+  unfolding named
+  fresh-only e = regular f (seen s) c .stale-only (by-row FRESH (λ b. b) (as-refused f s c (omega arith) e .1) .0)
+
+  pub never-record : step f s c .reply .refusal .number ≢ 12
+  unfolding named
+  never-record e = two-ways refl (by-row RECORD (λ b. b) (as-refused f s c (omega arith) e .1) .0)
+
   -- 4 is never given by a call that stale doesn't stop, nor 6 where nothing has to pass it
   pub never-stale : asks (seen s) c .stale ≡ false → step f s c .reply .refusal .number ≢ 4
   unfolding named
@@ -246,7 +262,9 @@ module _ (f : Format) (s : Filter) (c : Call) where
       early stage l x t = two-ways t x
       early size l x t = absurd (omega arith)
       early short l x t = absurd (omega arith)
+      early form l x t = absurd (omega arith)
       early stale l x t = absurd (omega arith)
+      early fresh l x t = absurd (omega arith)
       early (Row.number v i) l x t = absurd (omega arith)
       early kind l x t = absurd (omega arith)
       early param l x t = absurd (omega arith)

@@ -21,7 +21,7 @@ use Rattle.filter.specs.Asked.{Param, Asks, inRange, within, long}
 use Rattle.filter.specs.Filters.{isCorrecting, seen}
 use Rattle.filter.specs.Calls.{CloseCall, Call, closing, close-correction, close-correction-flat, sized, needing, needingPlain, observedNumbers, lentMeasured, asking, asks}
 use Rattle.filter.specs.Steps.{step}
-use Rattle.demands.specs.Rows.{Some, OutOfRange, Shorter, FirstIn, FirstBad, found, further, FirstBadTurn, IsTurn, IsOpen, Measurable, Cause, stage, size, short, stale, kind, param, met, Applies, rank}
+use Rattle.demands.specs.Rows.{Some, OutOfRange, Shorter, FirstIn, FirstBad, found, further, FirstBadTurn, IsTurn, IsOpen, Measurable, Cause, stage, size, short, form, stale, fresh, kind, param, met, Applies, rank}
 use Rattle.demands.specs.Rows as Row
 use Rattle.demands.proofs.Rows.{two-ways, itself, passes-where, some, ranged, lent-long, all-finite}
 use Rattle.demands.proofs.Exactly.{of-search, exactly}
@@ -71,7 +71,7 @@ module _ (s : Filter) (m : ℕ) (z r observed : List Float) where
     abbrev a : Asks
     a = lending inputs plain params
 
-    measurable : ((d : Cause) → rank d < 4 → Applies f a vs d → ⊥) → allFinite (take (m * m) r) ≡ true → allFinite (take (observedNumbers (s .sheet .n) m) observed) ≡ true → allFinite (take m z) ≡ true → Measurable s m z r observed
+    measurable : ((d : Cause) → rank d < 6 → Applies f a vs d → ⊥) → allFinite (take (m * m) r) ≡ true → allFinite (take (observedNumbers (s .sheet .n) m) observed) ≡ true → allFinite (take m z) ≡ true → Measurable s m z r observed
     measurable w fr fo fz =
         let sizes = pass within (a .sizes) (passes-where (some within OutOfRange ranged (a .sizes)) (w size (omega arith))) in
         let lent = pass long (a .lent) (passes-where (some long Shorter lent-long (a .lent)) (w short (omega arith))) in record {
@@ -84,11 +84,13 @@ module _ (s : Filter) (m : ℕ) (z r observed : List Float) where
           finite-observed = fo;
         }
 
-    none-before : Measurable s m z r observed → (d : Cause) → rank d < 4 → Applies f a vs d → ⊥
+    none-before : Measurable s m z r observed → (d : Cause) → rank d < 6 → Applies f a vs d → ⊥
     none-before h stage l x = two-ways (h .correcting) x
     none-before h size l x = some within OutOfRange ranged (a .sizes) .passes (both-true (in-range-is 1 8 (s .sheet .n) (h .states)) (both-true (in-range-is 1 4 m (h .measurements)) refl)) x
     none-before h short l x = some long Shorter lent-long (a .lent) .passes (both-true (le-leb _ _ (h .long .0)) (both-true (le-leb _ _ (h .long .1)) (both-true (le-leb _ _ (h .long .2)) refl))) x
+    none-before h form l x = two-ways refl x
     none-before h stale l x = two-ways x refl
+    none-before h fresh l x = two-ways x refl
     none-before h (Row.number t i) l x = absurd (omega arith)
     none-before h kind l x = absurd (omega arith)
     none-before h param l x = absurd (omega arith)
@@ -113,7 +115,7 @@ module _ (f : Format) (s : Filter) (m : ℕ) (z r : List Float) where
             ⊎-elim
             (λ g. none-before s m z r observed f _ _ _ _ h d g x)
             (λ g. let w = of-search d (omega arith) in no-bad (asks (seen s) averaging .inputs) (finite-searched (asks (seen s) averaging .inputs) (h .finite-r, (h .finite-observed, (h .finite-z, (none-at-all, tt))))) (subst (Asked f s averaging) (w .2) x))
-            (split (rank d) 4)
+            (split (rank d) 6)
 
   module _ (kinds : List Kind) (observed : List Float) where
     abbrev weighing : Call

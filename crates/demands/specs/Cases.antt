@@ -1,4 +1,4 @@
--- THE TABLE OF CASES: document 01's numbers to check by hand, C1 to C12, and a run each for document 02's A1 (the flat close), A3 (settings mark stale), A4 (a pair on one sheet), A5 (where the bad number is), A6 (where the width shows) and A7 (one point at a time); each a name and a test that antt computes. At f64, and at f32 all but what is of the flat close, of a pair or stepped. Definitions only.
+-- THE TABLE OF CASES: document 01's numbers to check by hand, C1 to C12, and a run each for document 02's A1 (the flat close), A3 (settings mark stale), A4 (a pair on one sheet), A5 (where the bad number is), A6 (where the width shows), A7 (one point at a time) and A8 (records); each a name and a test that antt computes. At f64, and at f32 all but what is of the flat close, of a pair, stepped or of records. Definitions only.
 use Prim.Native.Nat.{ℕ, _+_}
 use Prim.Native.String.{String}
 use mathlib.Core.Bool.{Bool, true, false, _&&_, Bool·beq}
@@ -24,9 +24,12 @@ use Rattle.sigma.specs.Weights.{lambdaOf, scaleOf, w0mOf, w0cOf, wiOf, weightsO
 use Rattle.sigma.specs.Mean.{meanOf}
 use Rattle.correction.specs.Correct.{Head, given, weightedHead}
 use Rattle.filter.specs.declared.Filter.{Filter}
-use Rattle.filter.specs.Calls.{Call, writing, setting, stepping, closing, closing-stepped, abandon, reading, set-x, set-p, set-q, set-params, set-kind, open-prediction, open-correction, open-prediction-stepped, open-correction-stepped, ask, image-prediction, image-correction, close-prediction, close-correction, close-correction-flat, close-prediction-stepped, close-correction-stepped, close-correction-flat-stepped, read-q, read-points, read-stale}
+use Rattle.filter.specs.Calls.{Call, writing, setting, stepping, closing, closing-stepped, abandon, reading, set-x, set-p, set-q, set-params, set-kind, open-prediction, open-correction, open-prediction-stepped, open-correction-stepped, ask, image-prediction, image-correction, close-prediction, close-correction, close-correction-flat, close-prediction-stepped, close-correction-stepped, close-correction-flat-stepped, read-q, read-points, read-stale, save}
+use Rattle.filter.specs.Records.{bytesOf}
 use Rattle.filter.specs.New.{newAnswer}
+use Rattle.filter.specs.Load.{loadAnswer}
 use Rattle.filter.specs.Point.{pointRefusal}
+use Rattle.script.specs.Text.{sameBytes}
 use Rattle.pairs.specs.declared.Pair.{Pair}
 use Rattle.pairs.specs.declared.Side.the-variants.{First, Second}
 use Rattle.pairs.specs.NewPair.{newPairAnswer}
@@ -101,11 +104,11 @@ measuring = measuringBy (int 12)
 
 -- what a call should tell: the number, at place 0, the numbers given, and x, P and the stale mark after it
 abbrev pub telling : ℕ → List Float → Float → Float → Bool → Told
-telling number given x p stale = record { reply = record { refusal = placeless number; given = given; stale = true }; x = x ∷ []; p = p ∷ []; stale = stale }
+telling number given x p stale = record { reply = record { refusal = placeless number; given = given; stale = true; bytes = [] }; x = x ∷ []; p = p ∷ []; stale = stale }
 
 -- and a reading of the stale mark
 abbrev pub marking : Float → Float → Bool → Told
-marking x p stale = record { reply = record { refusal = taken; given = []; stale = stale }; x = x ∷ []; p = p ∷ []; stale = stale }
+marking x p stale = record { reply = record { refusal = taken; given = []; stale = stale; bytes = [] }; x = x ∷ []; p = p ∷ []; stale = stale }
 
 abbrev pub story : List (String × (Call × Told))
 story =
@@ -335,7 +338,7 @@ kindsOf a b c = record { residual = a } ∷ record { residual = b } ∷ record {
 
 -- what a call should tell, after which x is (1, 2), P is (d e, e d) and the filter is stale: the number at its place and the numbers given
 abbrev pub placing : ℕ → ℕ → List Float → ℕ → ℕ → Told
-placing number place given d e = record { reply = record { refusal = record { number = number; place = place }; given = given; stale = true }; x = two (int 1) (int 2); p = four (int d) (int e) (int e) (int d); stale = true }
+placing number place given d e = record { reply = record { refusal = record { number = number; place = place }; given = given; stale = true; bytes = [] }; x = two (int 1) (int 2); p = four (int d) (int e) (int e) (int d); stale = true }
 
 abbrev pub placeStory : List (String × (Call × Told))
 placeStory =
@@ -469,7 +472,7 @@ newPairIs n x₁ p₁ x₂ p₂ q par number place = let a = newPairAnswer binar
 abbrev pub agrees : Told → Told → Bool
 agrees t e =
     says (t .reply .refusal) (e .reply .refusal .number) (e .reply .refusal .place)
-    && ((t .reply .given are e .reply .given) && (Bool·beq (t .reply .stale) (e .reply .stale) && ((take (length (e .x)) (t .x) are e .x) && ((take (length (e .p)) (t .p) are e .p) && Bool·beq (t .stale) (e .stale)))))
+    && ((t .reply .given are e .reply .given) && (sameBytes (t .reply .bytes) (e .reply .bytes) && (Bool·beq (t .reply .stale) (e .reply .stale) && ((take (length (e .x)) (t .x) are e .x) && ((take (length (e .p)) (t .p) are e .p) && Bool·beq (t .stale) (e .stale))))))
 
 abbrev pub against : {A : Type 0} → List (String × (A × Told)) → List Told → List (String × Bool)
 against [] ts = []
@@ -633,6 +636,91 @@ pairCases =
     ∷ ("A5 New of a pair, beta before kappa", newPairIs 2 fine fine fine fine fine (params (int 1) nan nan) 56 1)
     ∷ (against pairStory (map (λ t. t .told) (pairTold binary64 both (map (λ e. e .1 .0) pairStory))) ++ against sidesStory (map (λ t. t .told) (pairTold binary64 bothOfTwo (map (λ e. e .1 .0) sidesStory))))
 
+-- ---- A8: records of one state, byte by byte. A number whose bits are zero but for the highest two bytes: 2 is 40 00 (hex), 4 is 40 10, 1 is 3f f0, −1 is bf f0, NaN is 7f f8, −0 is 80 00
+
+abbrev pub eight : ℕ → ℕ → List ℕ
+eight second first = 0 ∷ 0 ∷ 0 ∷ 0 ∷ 0 ∷ 0 ∷ second ∷ first ∷ []
+
+abbrev pub none : List ℕ
+none = eight 0 0
+
+abbrev pub one : List ℕ
+one = eight 240 63
+
+abbrev pub noNumber : List ℕ
+noNumber = eight 248 127
+
+-- 57 50 01, then x, P, Q, alpha, beta, kappa and the nine bytes of a kind
+abbrev pub bytesWith : List ℕ → List ℕ → List ℕ → List ℕ → List ℕ → List ℕ → List ℕ → List ℕ
+bytesWith x p q a b k kind = 87 ∷ 80 ∷ 1 ∷ x ++ (p ++ (q ++ (a ++ (b ++ (k ++ kind)))))
+
+-- a plain kind; a turn of 180, 40 66 80 .. (hex)
+abbrev pub plainBytes : List ℕ
+plainBytes = 0 ∷ none
+
+abbrev pub turnBytes : List ℕ
+turnBytes = 1 ∷ 0 ∷ 0 ∷ 0 ∷ 0 ∷ 0 ∷ 128 ∷ 102 ∷ 64 ∷ []
+
+-- C9's filter: x = 2, P = 4, Q = 1, parameters 1, 0, 0
+abbrev pub firstBytes : List ℕ → List ℕ
+firstBytes kind = bytesWith (eight 0 64) (eight 16 64) one one none none kind
+
+-- what a save tells: its number and the bytes handed out
+abbrev pub saving : ℕ → List ℕ → Float → Float → Bool → Told
+saving number bytes x p stale = record { reply = record { refusal = placeless number; given = []; stale = true; bytes = bytes }; x = x ∷ []; p = p ∷ []; stale = stale }
+
+abbrev pub room : ℕ → Call
+room k = reading (save (replicate k 7))
+
+abbrev pub recordStory : List (String × (Call × Told))
+recordStory =
+    ("A8 saved", (room 60, saving 0 (firstBytes plainBytes) (int 2) (int 4) true))
+    ∷ ("A8 saved into more", (room 63, saving 0 (firstBytes plainBytes) (int 2) (int 4) true))
+    ∷ ("A8 no room", (room 59, saving 2 [] (int 2) (int 4) true))
+    ∷ ("A8 open", (setting (open-prediction three), telling 0 (int 2 ∷ int 4 ∷ int 0 ∷ []) (int 2) (int 4) true))
+    ∷ ("A8 open before no room", (room 0, saving 3 [] (int 2) (int 4) true))
+    ∷ ("A8 predicted", (closing (close-prediction (int 2 ∷ int 4 ∷ int 0 ∷ [])), telling 0 [] (int 2) (int 5) false))
+    ∷ ("A8 not stale", (room 60, saving 11 [] (int 2) (int 5) false))
+    ∷ ("A8 no room before not stale", (room 59, saving 2 [] (int 2) (int 5) false))
+    ∷ ("A8 a turn", (writing (set-kind 0 (record { residual = Turn (int 180) })), telling 0 [] (int 2) (int 5) true))
+    ∷ ("A8 P = 4", (setting (set-p (int 4 ∷ [])), telling 0 [] (int 2) (int 4) true))
+    ∷ ("A8 the turn saved", (room 60, saving 0 (firstBytes turnBytes) (int 2) (int 4) true))
+    ∷ []
+
+-- what bytes read as: the number and the place; taken, the record of what is read
+abbrev pub loadIs : List ℕ → ℕ → ℕ → Bool
+loadIs b number place = says (loadAnswer b binary64 .refusal) number place
+
+abbrev pub loadCases : List (String × Bool)
+loadCases =
+    let x = eight 0 64 in
+    let p = eight 16 64 in
+    ("A8 read", loadIs (firstBytes turnBytes) 0 0 && sameBytes (bytesOf (loadAnswer (firstBytes turnBytes) binary64 .filter)) (firstBytes turnBytes))
+    ∷ ("A8 read from more", loadIs (firstBytes plainBytes ++ (7 ∷ [])) 0 0)
+    ∷ ("A8 no bytes", loadIs [] 2 0)
+    ∷ ("A8 two bytes", loadIs (87 ∷ 80 ∷ []) 2 0)
+    ∷ ("A8 nine states before the mark", loadIs (0 ∷ 0 ∷ 9 ∷ []) 1 0)
+    ∷ ("A8 no states", loadIs (87 ∷ 80 ∷ 0 ∷ []) 1 0)
+    ∷ ("A8 cut before the mark", loadIs (0 ∷ 0 ∷ 1 ∷ []) 2 0)
+    ∷ ("A8 one byte short", loadIs (take 59 (firstBytes plainBytes)) 2 0)
+    ∷ ("A8 a wrong mark before a number", loadIs (87 ∷ 81 ∷ drop 2 (bytesWith noNumber p one one none none plainBytes)) 12 0)
+    ∷ ("A8 kind byte 2", loadIs (firstBytes (2 ∷ none)) 12 0)
+    ∷ ("A8 plain with −0", loadIs (firstBytes (0 ∷ eight 0 128)) 12 0)
+    ∷ ("A8 x before P", loadIs (bytesWith noNumber noNumber one one none none plainBytes) 51 0)
+    ∷ ("A8 P before Q", loadIs (bytesWith x noNumber noNumber one none none plainBytes) 52 0)
+    ∷ ("A8 Q before parameters", loadIs (bytesWith x p noNumber noNumber none none plainBytes) 53 0)
+    ∷ ("A8 beta before a half-turn", loadIs (bytesWith x p one one noNumber none (1 ∷ noNumber)) 56 1)
+    ∷ ("A8 a half-turn before 6", loadIs (bytesWith x p one one none (eight 240 191) (1 ∷ noNumber)) 56 0)
+    ∷ ("A8 6 of the parameters", loadIs (bytesWith x p one one none (eight 240 191) plainBytes) 6 0)
+    ∷ ("A8 6 of a turn", loadIs (firstBytes (1 ∷ none)) 6 0)
+    ∷ []
+
+-- what was read answers as C9 has it
+abbrev pub recordCases : List (String × Bool)
+recordCases =
+    against recordStory (told binary64 (at-first binary64) (map (λ e. e .1 .0) recordStory))
+    ++ (loadCases ++ against story (told binary64 (loadAnswer (firstBytes plainBytes) binary64 .filter) (map (λ e. e .1 .0) story)))
+
 -- by width
 abbrev pub cases : List (String × List (String × Bool))
-cases = ("f64", filterCases binary64 ++ (flatCases ++ (steppedCases ++ pairCases))) ∷ ("f32", filterCases binary32) ∷ []
+cases = ("f64", filterCases binary64 ++ (flatCases ++ (steppedCases ++ (pairCases ++ recordCases)))) ∷ ("f32", filterCases binary32) ∷ []

@@ -1,4 +1,4 @@
--- The table of refusals in the documents' own words (51 to 56, 10 and the places are document 02's; what A7 adds to 3 and 1 is in what its calls ask, `fits` and `named`, and that 3 is wider on a pair in what a call on a side asks, `pairFits`), and when a number is due. Definitions only.
+-- The table of refusals in the documents' own words (51 to 56, 10, 11, 12 and the places are document 02's; what A7 adds to 3 and 1 is in what its calls ask, `fits` and `named`, and that 3 is wider on a pair in what a call on a side asks, `pairFits`), and when a number is due. Definitions only.
 use Prim.Native.Nat.{ℕ, _+_, _*_, _<_, _≤_}
 use mathlib.Core.Path.{_≡_}
 use mathlib.Core.Bool.{true, false}
@@ -10,7 +10,7 @@ use lib.Ieee.Scale.{finite}
 use Rattle.floats.specs.declared.Slice.{Slice}
 use Rattle.floats.specs.declared.Slice.the-variants.{State, Covariance, Noise, Points, Measurement, Lone}
 use Rattle.floats.specs.declared.Verdict.{Verdict}
-use Rattle.floats.specs.Refusal.{Refusal, SIZE, SHORT, STAGE, STALE, NUMBER, PARAM, PIVOT, INNOV, RANGE, KIND, badLone, sliceNumber}
+use Rattle.floats.specs.Refusal.{Refusal, SIZE, SHORT, STAGE, STALE, NUMBER, PARAM, PIVOT, INNOV, RANGE, KIND, FRESH, RECORD, badLone, sliceNumber}
 use Rattle.floats.specs.Search.{Input, input}
 use Rattle.floats.specs.Numbers.{plusZero, allFinite}
 use Rattle.angles.specs.Kinds.{plain, halfOf}
@@ -21,8 +21,8 @@ use Rattle.matrix.specs.Results.{Result, numbers, pivot, rooting, refusalOf}
 use Rattle.sigma.specs.Weights.{scaleOf, w0mOf, w0cOf, wiOf}
 use Rattle.filter.specs.declared.Filter.{Filter}
 use Rattle.filter.specs.Filters.{isCorrecting, seen}
-use Rattle.filter.specs.Asked.{Size, Lent, Param, by-params, by-kind, Asks}
-use Rattle.filter.specs.Calls.{CloseCall, SteppedClose, withList, Call, writing, setting, stepping, closing, closing-stepped, abandon, reading, set-x, set-p, set-q, set-params, set-kind, open-prediction, open-correction, open-prediction-stepped, open-correction-stepped, ask, image-prediction, image-correction, close-prediction, close-correction, close-correction-flat, close-prediction-stepped, close-correction-stepped, close-correction-flat-stepped, fits, sized, lend, halves, asKinds, Needs, named, needing, needingPlain, asking, asks}
+use Rattle.filter.specs.Asked.{Size, Lent, of-numbers, of-bytes, Param, by-params, by-kind, Asks}
+use Rattle.filter.specs.Calls.{CloseCall, SteppedClose, withList, Call, writing, setting, stepping, closing, closing-stepped, abandon, reading, set-x, set-p, set-q, set-params, set-kind, open-prediction, open-correction, open-prediction-stepped, open-correction-stepped, ask, image-prediction, image-correction, close-prediction, close-correction, close-correction-flat, close-prediction-stepped, close-correction-stepped, close-correction-flat-stepped, save, fits, sized, lend, halves, asKinds, Needs, named, needing, needingPlain, asking, asks}
 
 -- one of the list has P
 pub data Some {A : Type 0} (P : A → Type 0) : List A → Type 0 where
@@ -44,7 +44,8 @@ OutOfRange s = (s .value < s .from) ⊎ (s .to < s .value)
 
 -- 2: a lent slice is shorter than the call needs
 abbrev pub Shorter : Lent → Type 0
-Shorter l = length (l .slice) < l .needs
+Shorter (of-numbers slice needs) = length slice < needs
+Shorter (of-bytes slice needs) = length slice < needs
 
 -- the first of a list that has P is that at i; d stands past the end, and is to be one without P, as +0 and a plain kind below, so that i is inside the list
 pub record FirstAt {A : Type 0} (P : A → Type 0) (d : A) (l : List A) (i : ℕ) : Type 0 where
@@ -55,7 +56,7 @@ pub record FirstAt {A : Type 0} (P : A → Type 0) (d : A) (l : List A) (i : ℕ
 abbrev pub FirstIn : List Float → ℕ → Type 0
 FirstIn = FirstAt NotFinite plusZero
 
--- of the slices in the order of the search it is one named s that has it, and all numbers of those before it are finite (New of a pair has two states and two covariances)
+-- of the slices in the order of the search it is one named s that has it, and all numbers of those before it are finite (New of a pair has two states and two covariances, and load a lone value more for each kind)
 pub data FirstBad : Slice → ℕ → List Input → Type 0 where
   found : {i : ℕ} {x : Input} {l : List Input} → FirstIn (x .numbers) i → FirstBad (x .name) i (x ∷ l)
   further : {s : Slice} {i : ℕ} {x : Input} {l : List Input} → (Some NotFinite (x .numbers) → ⊥) → FirstBad s i l → FirstBad s i (x ∷ l)
@@ -125,7 +126,7 @@ pub data FirstFails : Refusal → List Result → Type 0 where
 -- ---- THE TABLE: the causes of a refusal, a row each; what the steps meet comes by the first result that fails
 
 pub data Cause : Type 0 where
-  stage size short stale kind param : Cause
+  stage size short form stale fresh kind param : Cause
   number : Slice → ℕ → Cause
   met : Refusal → Cause
 
@@ -133,7 +134,9 @@ abbrev pub gives : Cause → Refusal
 gives stage = STAGE
 gives size = SIZE
 gives short = SHORT
+gives form = RECORD
 gives stale = STALE
+gives fresh = FRESH
 gives (number s i) = NUMBER s i
 gives kind = KIND
 gives param = PARAM
@@ -143,22 +146,26 @@ abbrev pub Applies : Format → Asks → List Result → Cause → Type 0
 Applies f a vs stage = a .fits ≡ false
 Applies f a vs size = Some OutOfRange (a .sizes)
 Applies f a vs short = Some Shorter (a .lent)
+Applies f a vs form = a .formed ≡ false
 Applies f a vs stale = a .stale ≡ true
+Applies f a vs fresh = a .fresh ≡ true
 Applies f a vs (number s i) = FirstBad s i (a .inputs)
 Applies f a vs kind = Some IsTurn (a .plain)
 Applies f a vs param = Some (Unfit f) (a .params)
 Applies f a vs (met r) = FirstFails r vs
 
--- the order: 3, 1, 2, 4, 51 to 56 as the search finds them, 10, 6, then 7, 8, 9 and a root's 56 as the steps meet them
+-- the order: 3, 1, 2, 12, 4, 11, 51 to 56 as the search finds them, 10, 6, then 7, 8, 9 and a root's 56 as the steps meet them
 abbrev pub rank : Cause → ℕ
 rank stage = 0
 rank size = 1
 rank short = 2
-rank stale = 3
-rank (number s i) = 4
-rank kind = 5
-rank param = 6
-rank (met r) = 7
+rank form = 3
+rank stale = 4
+rank fresh = 5
+rank (number s i) = 6
+rank kind = 7
+rank param = 8
+rank (met r) = 9
 
 -- r is due: a row that gives it applies, and no row before it in the order
 pub record Due (f : Format) (a : Asks) (vs : List Result) (r : Refusal) : Type 0 where
@@ -167,13 +174,13 @@ pub record Due (f : Format) (a : Asks) (vs : List Result) (r : Refusal) : Type 0
   pub applies : Applies f a vs cause
   pub no-earlier : (c : Cause) → rank c < rank cause → Applies f a vs c → ⊥
 
--- no row before rank k applies to a call: with 4 nothing is refused before the search of its numbers, with 7 nothing before its steps
+-- no row before rank k applies to a call: with 6 nothing is refused before the search of its numbers, with 9 nothing before its steps
 abbrev pub Free : Format → ℕ → Filter → Call → Type 0
 Free f k s c = (d : Cause) → rank d < k → Applies f (asks (seen s) c) [] d → ⊥
 
 -- ---- what the steps of a call can give
 
--- the opens; the closes, of which some are a correction's; and those that ask kinds to be plain
+-- the opens; the closes, of which some are a correction's; those that ask kinds to be plain; and save
 pub data IsOpen : Call → Type 0 where
   of-prediction : {b : List Float} → IsOpen (setting (open-prediction b))
   of-correction : {b : List Float} → IsOpen (setting (open-correction b))
@@ -194,6 +201,9 @@ pub data IsFlat : Call → Type 0 where
   flat : {m : ℕ} {z r observed : List Float} → IsFlat (closing (close-correction-flat m z r observed))
   flat-stepped : {m : ℕ} {z r : List Float} → IsFlat (closing-stepped (close-correction-flat-stepped m z r))
 
+pub data IsSave : Call → Type 0 where
+  saves : {b : List ℕ} → IsSave (reading (save b))
+
 -- at the most: an open 7 at any row, and 56 at 0 for an N without a root; a close of a correction 8 at any row; each of these, and the close of a prediction, 9; another call nothing
 abbrev pub ByStep : Call → Refusal → Type 0
 ByStep c SIZE = ⊥
@@ -206,6 +216,8 @@ ByStep c (PIVOT j) = IsOpen c
 ByStep c (INNOV j) = IsCorrection c
 ByStep c RANGE = IsOpen c ⊎ IsClose c
 ByStep c KIND = ⊥
+ByStep c FRESH = ⊥
+ByStep c RECORD = ⊥
 
 -- nothing stops a whole-list close of a correction before its kinds count: a correction is open with the whole list, there are 1 to 8 states and 1 to 4 measurements, the slices are long enough and their numbers finite
 pub record Measurable (s : Filter) (m : ℕ) (z r observed : List Float) : Type 0 where

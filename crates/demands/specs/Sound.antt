@@ -19,6 +19,7 @@ use Rattle.filter.specs.Filters.{isShut, isCorrection, isStepped, nothingKept}
 use Rattle.filter.specs.Calls.{Call, halves, valuesOf, asKinds}
 use Rattle.filter.specs.Steps.{step}
 use Rattle.filter.specs.New.{newAnswer}
+use Rattle.filter.specs.Load.{loadAnswer}
 use Rattle.demands.specs.Runs.{Told, Alike}
 
 -- an array of m places of which k are in use: those are finite, the others +0
@@ -79,18 +80,20 @@ pub record Tidy (s : Filter) : Type 0 where
   pub scratch-kept : isStepped (s .track .stage) ≡ false → s .track .kept ≡ nothingKept
 
 module _ (f : Format) where
-  -- the filters that New and later calls yield
+  -- the filters that New, load and later calls yield
   pub data Reached : Filter → Type 0 where
     made : (n : ℕ) (x p q : List Float) (params : Params) → Reached (newAnswer f n x p q params .filter)
+    read : (b : List ℕ) → Reached (loadAnswer b f .filter)
     further : {s : Filter} → Reached s → (c : Call) → Reached (step f s c .filter)
 
   -- the filters that the demands speak of: those, and such filters, stale and with no call open, with points, weights and scratch put at will
   pub data Yielded : Filter → Type 0 where
     fresh-made : (n : ℕ) (x p q : List Float) (params : Params) → Yielded (newAnswer f n x p q params .filter)
+    loaded : (b : List ℕ) → Yielded (loadAnswer b f .filter)
     stepped-on : {s : Filter} → Yielded s → (c : Call) → Yielded (step f s c .filter)
     put-at-will : {s : Filter} (t : Filter) → Yielded s → Alike s t → Yielded t
 
--- every number that a call hands out: those it gives, to a buffer or as values, and x and P as they stand after it
+-- every number that a call hands out: those it gives, to a buffer or as values, and x and P as they stand after it (those that a saved record is written from: `record-finite` in Records)
 abbrev pub handedOut : Told → List Float
 handedOut t = t .reply .given ++ (t .x ++ t .p)
 

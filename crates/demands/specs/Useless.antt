@@ -58,7 +58,7 @@ constant s c =
     let v = t .filter .track in
     record {
       filter = filter (t .filter .sheet) (track (zeros 8) (zeros 64) (v .weights) (v .points) (v .stale) (v .stage) (v .«drawn_weights») (v .«drawn_points») (v .kept));
-      reply = record { refusal = t .reply .refusal; given = zeros (length (t .reply .given)); stale = t .reply .stale };
+      reply = record { refusal = t .reply .refusal; given = zeros (length (t .reply .given)); stale = t .reply .stale; bytes = t .reply .bytes };
     }
 
 -- hands the filter back untouched

@@ -15,17 +15,17 @@ use Rattle.sigma32.specs.declared.Params.{Params}
 use Rattle.sigma32.specs.Wide.{wideParams}
 use Rattle.filter32.specs.declared.Filter.{Filter}
 use Rattle.filter32.specs.Wide.{wideSheet, wideFilter}
-use Rattle.demands.specs.Rows.{IsFlat}
+use Rattle.demands.specs.Rows.{IsFlat, IsSave}
 use Rattle.demands.specs.Runs.{Told, tells as tellsWide, told as toldWide, ranTo as ranToWide, Alike as AlikeWide, StaysOpen as StaysOpenWide, Struck as StruckWide, none-left as none-wide, call-kept as kept-wide, refused-struck as refused-wide, opening-struck as opening-wide, rest as restWide}
 use Rattle.demands.specs.Sound.{Reached as ReachedWide, made as made-wide, further as further-wide, Yielded as YieldedWide, fresh-made as fresh-wide, stepped-on as stepped-wide, put-at-will as at-will-wide}
 use Rattle.demands.proofs.Passed.{by-cases}
 use Rattle.demands.proofs.Table.{Own}
 use Rattle.demands.proofs.Leftover.{step-cases}
-use Rattle.demands32.specs.Calls.{Call, writing, setting, closing, close-prediction, close-correction, abandon, reading, wideCall}
+use Rattle.demands32.specs.Calls.{close-prediction, close-correction, read-x, read-p, read-q, read-points, read-params, read-stale, Call, writing, setting, closing, abandon, reading, wideCall}
 use Rattle.demands32.specs.Runs.{stepNarrow, newNarrow, tells, told, ranTo, Alike, StaysOpen, Struck, none-left, call-kept, refused-struck, opening-struck, rest, Reached, made, further, Yielded, fresh-made, stepped-on, put-at-will}
 use Rattle.demands32.proofs.OneToOne.{forth-filter}
 
--- ---- nothing is kept at f32, and no close is flat
+-- ---- nothing is kept at f32, no close is flat, and nothing is saved
 
 -- a change of the sheet, or of a track with nothing open, keeps nothing where nothing was kept
 marked-keeps-nothing : (t : WideTrack) (c : Writing) → t .kept ≡ nothingKept → marked t c .kept ≡ nothingKept
@@ -65,6 +65,19 @@ none-flat (closing (close-prediction v)) w = elim w [ ]
 none-flat (closing (close-correction m z r kinds observed)) w = elim w [ ]
 none-flat abandon w = elim w [ ]
 none-flat (reading c) w = elim w [ ]
+
+-- and none is save
+pub none-saves : (c : Call) → IsSave (wideCall c) → ⊥
+none-saves (writing c) w = elim w [ ]
+none-saves (setting c) w = elim w [ ]
+none-saves (closing c) w = elim w [ ]
+none-saves abandon w = elim w [ ]
+none-saves (reading (read-x b)) w = elim w [ ]
+none-saves (reading (read-p b)) w = elim w [ ]
+none-saves (reading (read-q b)) w = elim w [ ]
+none-saves (reading (read-points b)) w = elim w [ ]
+none-saves (reading read-params) w = elim w [ ]
+none-saves (reading read-stale) w = elim w [ ]
 
 -- ---- steps, runs and filters
 

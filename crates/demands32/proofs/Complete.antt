@@ -71,6 +71,8 @@ use Rattle.filter32.proofs.Sheet.new.Kinds as new-sheet-of
 use Rattle.filter32.proofs.Sheet.new.Reads as new-sheet
 use Rattle.filter32.proofs.Track.new.Kinds as new-track-of
 use Rattle.filter32.proofs.Track.new.Reads as new-track
+use Rattle.filter32.proofs.new.fresh_track.Kinds as fresh-track-of
+use Rattle.filter32.proofs.new.fresh_track.Reads as fresh-track
 use Rattle.filter32.proofs.new.empty_sheet.Kinds as empty-sheet-of
 use Rattle.filter32.proofs.new.empty_sheet.Reads as empty-sheet
 use Rattle.filter32.proofs.new.empty_track.Kinds as empty-track-of
@@ -227,6 +229,9 @@ new-sheet-one κs a z z′ w w′ p q = (one-new-sheet z z′ (by p q), refl)
 
 pub new-track-one : OneAnswer new-track-of.ps new-track-of.r new-track.Learnt
 new-track-one κs a z z′ w w′ p q = (one-new-track (by p q), refl)
+
+pub fresh-track-one : OneAnswer fresh-track-of.ps fresh-track-of.r fresh-track.Learnt
+fresh-track-one κs a z z′ w w′ p q = (one-track (by p q), refl)
 
 pub empty-sheet-one : OneAnswer empty-sheet-of.ps empty-sheet-of.r empty-sheet.Learnt
 empty-sheet-one κs a z z′ w w′ p q = (one-sheet z z′ (by p q), refl)

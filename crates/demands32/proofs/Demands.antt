@@ -50,7 +50,7 @@ use Rattle.demands32.specs.Calls.{SheetCall, SetCall, open-prediction, o
 use Rattle.demands32.specs.Narrow.{narrowFilter}
 use Rattle.demands32.specs.Runs.{stepNarrow, newNarrow, told, ranTo, Alike, StaysOpen, Struck, rest, Reached, Yielded}
 use Rattle.demands32.proofs.OneToOne.{back-filter, one-root, one-answer}
-use Rattle.demands32.proofs.Carried.{none-flat, step-carried, new-carried, told-carried, alike-carried, reached-carried, yielded-carried, opened-carried, abandoned-carried, struck-carried}
+use Rattle.demands32.proofs.Carried.{none-flat, none-saves, step-carried, new-carried, told-carried, alike-carried, reached-carried, yielded-carried, opened-carried, abandoned-carried, struck-carried}
 
 -- ---- From the code to here, and from here to `demands`
 
@@ -102,26 +102,32 @@ pub new-taken-when : (n : ℕ) (x p q : List Float) (params : Params) → (newNa
 new-taken-when n x p q params = demand1.new-taken-when binary32 n x p q (wideParams params)
 
 -- From every call but the opens, 51 to 56 tell the first bad number in the order of the search (no images are kept, and none are searched),
-pub number-when : (s : Filter) (c : Call) → (IsOpen (wideCall c) → ⊥) → (t : Slice) (i : ℕ) → (stepNarrow s c .reply .refusal ≡ verdict (NUMBER t i)) ↔ (Free binary32 4 (wideFilter s) (wideCall c) × FirstBad t i (searches (wideFilter s) (wideCall c)))
+pub number-when : (s : Filter) (c : Call) → (IsOpen (wideCall c) → ⊥) → (t : Slice) (i : ℕ) → (stepNarrow s c .reply .refusal ≡ verdict (NUMBER t i)) ↔ (Free binary32 6 (wideFilter s) (wideCall c) × FirstBad t i (searches (wideFilter s) (wideCall c)))
 number-when s c = demand1.number-when binary32 (wideFilter s) (wideCall c)
 
 -- 7 the row of the first bad pivot of P, and 8 that of S;
-pub pivot-at-open-prediction : (s : Filter) (b : List Float) (j : ℕ) → let c = setting (open-prediction b) in (stepNarrow s c .reply .refusal ≡ verdict (PIVOT j)) ↔ (Free binary32 7 (wideFilter s) (wideCall c) × BadPivot binary32 (s .track .p) (s .sheet .n) j)
+pub pivot-at-open-prediction : (s : Filter) (b : List Float) (j : ℕ) → let c = setting (open-prediction b) in (stepNarrow s c .reply .refusal ≡ verdict (PIVOT j)) ↔ (Free binary32 9 (wideFilter s) (wideCall c) × BadPivot binary32 (s .track .p) (s .sheet .n) j)
 pivot-at-open-prediction s = demand1.pivot-at-open-prediction binary32 (wideFilter s)
 
-pub pivot-at-open-correction : (s : Filter) (b : List Float) (j : ℕ) → let c = setting (open-correction b) in (stepNarrow s c .reply .refusal ≡ verdict (PIVOT j)) ↔ (Free binary32 7 (wideFilter s) (wideCall c) × ((s .track .stale ≡ true) × BadPivot binary32 (s .track .p) (s .sheet .n) j))
+pub pivot-at-open-correction : (s : Filter) (b : List Float) (j : ℕ) → let c = setting (open-correction b) in (stepNarrow s c .reply .refusal ≡ verdict (PIVOT j)) ↔ (Free binary32 9 (wideFilter s) (wideCall c) × ((s .track .stale ≡ true) × BadPivot binary32 (s .track .p) (s .sheet .n) j))
 pivot-at-open-correction s = demand1.pivot-at-open-correction binary32 (wideFilter s)
 
 pub pivot-at-correction : (s : Filter) (m : ℕ) (z r : List Float) (kinds : List Kind) (observed : List Float) (j : ℕ) → let c = closing (close-correction m z r kinds observed) in let h = weightedFrom binary32 (seen (wideFilter s)) m z r (wideKinds kinds) observed in
-    (stepNarrow s c .reply .refusal ≡ verdict (INNOV j)) ↔ (Free binary32 7 (wideFilter s) (wideCall c) × ((Some Fails (listedAtHead binary32 h) → ⊥) × BadPivot binary32 (h .s) m j))
+    (stepNarrow s c .reply .refusal ≡ verdict (INNOV j)) ↔ (Free binary32 9 (wideFilter s) (wideCall c) × ((Some Fails (listedAtHead binary32 h) → ⊥) × BadPivot binary32 (h .s) m j))
 pivot-at-correction s m z r kinds = demand1.pivot-at-correction binary32 (wideFilter s) m z r (wideKinds kinds)
 
--- beside every other answer stands place 0. 10 belongs to the flat close, so that no call of the f32 filter gives it,
+-- beside every other answer stands place 0. 10 belongs to the flat close, 11 to save and 12 to load, so that no call of the f32 filter gives them,
 pub no-other-place : (s : Filter) (c : Call) → Placed (stepNarrow s c .reply .refusal)
 no-other-place s c = demand1.no-other-place binary32 (wideFilter s) (wideCall c)
 
 pub no-kind : (s : Filter) (c : Call) → stepNarrow s c .reply .refusal .number ≢ 10
 no-kind s c e = none-flat c (demand1.kind-by-flat-alone binary32 (wideFilter s) (wideCall c) e)
+
+pub no-fresh : (s : Filter) (c : Call) → stepNarrow s c .reply .refusal .number ≢ 11
+no-fresh s c e = none-saves c (demand1.fresh-by-save-alone binary32 (wideFilter s) (wideCall c) e)
+
+pub no-record : (s : Filter) (c : Call) → stepNarrow s c .reply .refusal .number ≢ 12
+no-record s c = demand1.no-call-gives-12 binary32 (wideFilter s) (wideCall c)
 
 -- and opening gives none of 51 to 56 and not 6, on any filter that the demands speak of.
 pub opening-prediction-never : {s : Filter} → Yielded s → (b : List Float) → Neither (stepNarrow s (setting (open-prediction b)) .reply .refusal .number)

@@ -18,6 +18,7 @@ use Rattle.sigma.specs.Draw.{pointAt}
 use Rattle.filter.specs.Asked.{inRange, guarded}
 use Rattle.filter.specs.Steps.{step}
 use Rattle.filter.specs.New.{newOf}
+use Rattle.script.specs.Text.{sameBytes}
 use Rattle.filter32.specs.declared.Filter.{Filter}
 use Rattle.filter32.specs.Wide.{wideTrack}
 use Rattle.angles32.specs.declared.Residual.the-variants.{Plain, Turn}
@@ -89,5 +90,5 @@ pub record Computed : Type 0 where
   pub by-the-table : failing (against story (told second-one called)) ≡ []
 
 pub computed : Computed
-unfolding halfTurn wrapStep brought _is_ _are_ ofInt toBits add sub mul rem div neg lt le size odd allFinite aboveZero zeros front rootOf rooted rootUnits nearRoot floorRoot totalOf placesOf builtOf rowOf rowsOf worked run rowsFrom columnOf columnsFrom unitAt lambdaOf scaleOf w0mOf w0cOf wiOf weightsPass pointAt inRange guarded searched searchedFrom step newOf told wideKinds narrowKinds
+unfolding halfTurn wrapStep brought _is_ _are_ sameBytes ofInt toBits add sub mul rem div neg lt le size odd allFinite aboveZero zeros front rootOf rooted rootUnits nearRoot floorRoot totalOf placesOf builtOf rowOf rowsOf worked run rowsFrom columnOf columnsFrom unitAt lambdaOf scaleOf w0mOf w0cOf wiOf weightsPass pointAt inRange guarded searched searchedFrom step newOf told wideKinds narrowKinds
 computed = record { first-left = refl; second-left = refl; ends-at-2 = refl; ends-at-3 = refl; by-the-table = refl }

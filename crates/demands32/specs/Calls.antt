@@ -1,4 +1,4 @@
--- The calls of the f32 filter with their inputs, and each read as the f64 filter's. They are document 01's: no flat close is among them, and no stepped call. Definitions only.
+-- The calls of the f32 filter with their inputs, and each read as the f64 filter's. They are document 01's: no flat close is among them, no stepped call and no save. Definitions only.
 use Prim.Native.Nat.{ℕ}
 use mathlib.Core.List.{List}
 use lib.Ieee.{Float}

@@ -1,4 +1,4 @@
--- A step of an f32 filter, its runs and what they tell, calls struck out, and the filters that the demands speak of: as specs/Runs.antt and specs/Sound.antt of `demands` have them, with this step in place of that one, and the calls of the f32 filter (Calls.antt) in place of those. Definitions only.
+-- A step of an f32 filter, its runs and what they tell, calls struck out, and the filters that the demands speak of: as specs/Runs.antt and specs/Sound.antt of `demands` have them, with this step in place of that one, and the calls of the f32 filter (Calls.antt) in place of those; none is read from a record. Definitions only.
 use Prim.Native.Nat.{ℕ}
 use mathlib.Core.Path.{_≡_}
 use mathlib.Core.Bool.{true, false}

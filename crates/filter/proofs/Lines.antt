@@ -14,7 +14,7 @@ use Rattle.floats.specs.Refusal.{Outcome, refusal, nothing}
 use Rattle.floats.specs.Search.{Input, input}
 use Rattle.floats.specs.Numbers.{zeros}
 use Rattle.floats.specs.Fronts.{front}
-use Rattle.filter.specs.Asked.{Size, Lent, Param, Asks, inRange, within, long, every, guarded, firstRefusal}
+use Rattle.filter.specs.Asked.{Size, Lent, of-numbers, Param, Asks, inRange, within, long, every, guarded, firstRefusal}
 use Rattle.filter.specs.Calls.{sized, lend, line}
 use Rattle.filter.proofs.Sizes.{and-left, and-right, range-le, within-8, square-le}
 use Rattle.filter.proofs.Order.{Passed}
@@ -29,10 +29,10 @@ module _ (f : Format) {fits : Bool} {n : ℕ} {sizes : List Size} {stale : Bool}
   pub sized-le : {lent : List Lent} → Passed f (line fits n sizes lent stale inputs params) → n ≤ 8
   sized-le p = states-le n sizes (p .sized)
 
-  pub long-le : {v : List Float} {k : ℕ} {lent : List Lent} → Passed f (line fits n sizes (record { slice = v; needs = k } ∷ lent) stale inputs params) → k ≤ length v
+  pub long-le : {v : List Float} {k : ℕ} {lent : List Lent} → Passed f (line fits n sizes (of-numbers v k ∷ lent) stale inputs params) → k ≤ length v
   long-le {v} {k} {lent} p = leb-true k (length v) (and-left (leb k (length v)) (every long lent) (p .long))
 
-  pub two-long : {a v : List Float} {i k : ℕ} {lent : List Lent} → Passed f (line fits n sizes (lend a i ++ (record { slice = v; needs = k } ∷ lent)) stale inputs params) → k ≤ length v
+  pub two-long : {a v : List Float} {i k : ℕ} {lent : List Lent} → Passed f (line fits n sizes (lend a i ++ (of-numbers v k ∷ lent)) stale inputs params) → k ≤ length v
   two-long {a} {v} {i} {k} {lent} p = leb-true k (length v) (and-left (leb k (length v)) (every long lent) (and-right (leb i (length a)) (leb k (length v) && every long lent) (p .long)))
 
 -- ---- counts

@@ -23,28 +23,28 @@ module _ (l : Lending) where
 
   -- the number, whatever is taken in
   lent-number : refusal (takenIn l) ≡ refusal (lentInOrder l nothing)
-  lent-number = alike refusal refusal whole true refl (λ q. refl) (l .fits) (sizesDo l) (longEnough l) false (searchedIn l) (l .plain) (l .passing)
+  lent-number = alike refusal refusal whole true refl (λ q. refl) (l .fits) (sizesDo l) (longEnough l) true false false (searchedIn l) (l .plain) (l .passing)
 
   lent-told : measured (takenIn l) .refusal ≡ refusal (takenIn l)
-  lent-told = alike (λ (o : Outcome Intake). measured o .refusal) refusal whole whole refl (λ q. refl) (l .fits) (sizesDo l) (longEnough l) false (searchedIn l) (l .plain) (l .passing)
+  lent-told = alike (λ (o : Outcome Intake). measured o .refusal) refusal whole whole refl (λ q. refl) (l .fits) (sizesDo l) (longEnough l) true false false (searchedIn l) (l .plain) (l .passing)
 
   -- the tests as the code makes them: past the sizes they need only be right where those pass
-  pub lent-tested : {size long : Bool} (o : Outcome Bool) {found q : Verdict} → q ≡ earlier (refusal (inOrder (l .fits) size long false nothing true true nothing)) (earlier found (refusal (inOrder true true true false nothing (l .plain) (l .passing) nothing))) → found ≡ refusal o → size ≡ sizesDo l → (sizesDo l ≡ true → long ≡ longEnough l) → (sizesDo l ≡ true → o ≡ searchedIn l) → q ≡ refusal (takenIn l)
+  pub lent-tested : {size long : Bool} (o : Outcome Bool) {found q : Verdict} → q ≡ earlier (refusal (inOrder (l .fits) size long true false false nothing true true nothing)) (earlier found (refusal (inOrder true true true true false false nothing (l .plain) (l .passing) nothing))) → found ≡ refusal o → size ≡ sizesDo l → (sizesDo l ≡ true → long ≡ longEnough l) → (sizesDo l ≡ true → o ≡ searchedIn l) → q ≡ refusal (takenIn l)
   lent-tested {size} {long} o e d s t u =
-      found-in-turn (l .fits) size long false o (l .plain) (l .passing) e d ∙ same-number (l .fits) size long false o (l .plain) (l .passing) (l .fits) (sizesDo l) (longEnough l) false (searchedIn l) (l .plain) (l .passing) refl s t refl u refl (λ h. refl) ∙ sym lent-number
+      found-in-turn (l .fits) size long true false false o (l .plain) (l .passing) e d ∙ same-number (l .fits) size long true false false o (l .plain) (l .passing) (l .fits) (sizesDo l) (longEnough l) true false false (searchedIn l) (l .plain) (l .passing) refl s t refl refl refl u refl (λ h. refl) ∙ sym lent-number
 
   pub lent-refused : (refusal (takenIn l) .number ≡ 0 → ⊥) → measured (takenIn l) ≡ unmeasured (refusal (takenIn l))
   lent-refused h =
-      let q = one-fails (l .fits) (sizesDo l) (longEnough l) false (searchedIn l) (l .plain) (l .passing) (accepted whole) (λ e. h (number-of lent-number ∙ e)) in
+      let q = one-fails (l .fits) (sizesDo l) (longEnough l) true false false (searchedIn l) (l .plain) (l .passing) (accepted whole) (λ e. h (number-of lent-number ∙ e)) in
       ap measured (q .1) ∙ ap (λ (o : Outcome Intake). unmeasured (refusal o)) (sym (q .1))
 
   module _ (h : refusal (takenIn l) .number ≡ 0) where
-    lent-passed : (l .fits ≡ true) × (sizesDo l ≡ true) × (longEnough l ≡ true) × (false ≡ false) × (refusal (searchedIn l) .number ≡ 0) × (l .plain ≡ true) × (l .passing ≡ true)
-    lent-passed = all-pass (l .fits) (sizesDo l) (longEnough l) false (searchedIn l) (l .plain) (l .passing) (sym (number-of lent-number) ∙ h)
+    lent-passed : (l .fits ≡ true) × (sizesDo l ≡ true) × (longEnough l ≡ true) × (true ≡ true) × (false ≡ false) × (false ≡ false) × (refusal (searchedIn l) .number ≡ 0) × (l .plain ≡ true) × (l .passing ≡ true)
+    lent-passed = all-pass (l .fits) (sizesDo l) (longEnough l) true false false (searchedIn l) (l .plain) (l .passing) (sym (number-of lent-number) ∙ h)
 
     pub lent-in : takenIn l ≡ accepted whole
     unfolding inOrder
-    lent-in = let t = lent-passed in rw (t .0, t .1, t .2, found-nothing (inputsMeasured (l .n) (l .m) (l .z) (l .r) (l .observed) (l .turns)) (t .4), t .5, t .6)
+    lent-in = let t = lent-passed in rw (t .0, t .1, t .2, found-nothing (inputsMeasured (l .n) (l .m) (l .z) (l .r) (l .observed) (l .turns)) (t .6), t .7, t .8)
 
     -- there are 1 to 8 states and 1 to 4 measurements, and the slices are long enough
     pub lent-sizes : (l .n ≤ 8) × (l .m ≤ 4)

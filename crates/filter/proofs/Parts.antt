@@ -23,7 +23,7 @@ two-never : {k : ℕ} → 50 < k → eqb k 2 ≡ false
 two-never {k} h = ne-eqb k 2 (λ (e : k ≡ 2). omega arith)
 
 -- by the tests of each part: n is tested in both, and 6 in the second alone
-by-tests : (s l₁ l₂ : Bool) (o₁ o₂ : Outcome Bool) (p : Bool) → ((r : Refusal) → o₂ ≡ refused r → 50 < number r) → refusal (inOrder true s (l₁ && l₂) false (onward o₁ (λ (t : Bool). o₂)) true p nothing) ≡ sooner (refusal (inOrder true s l₁ false o₁ true true nothing)) (refusal (inOrder true s l₂ false o₂ true p nothing))
+by-tests : (s l₁ l₂ : Bool) (o₁ o₂ : Outcome Bool) (p : Bool) → ((r : Refusal) → o₂ ≡ refused r → 50 < number r) → refusal (inOrder true s (l₁ && l₂) true false false (onward o₁ (λ (t : Bool). o₂)) true p nothing) ≡ sooner (refusal (inOrder true s l₁ true false false o₁ true true nothing)) (refusal (inOrder true s l₂ true false false o₂ true p nothing))
 unfolding inOrder sooner
 by-tests false l₁ l₂ o₁ o₂ p h = refl
 by-tests true false false o₁ o₂ p h = refl

@@ -24,7 +24,7 @@ use Rattle.filter.proofs.Lines.{counted, counted-first}
 
 -- nothing has changed, and nothing is handed out
 abbrev pub stayed : Filter → Verdict → Stepped
-stayed s r = record { filter = s; reply = record { refusal = r; given = []; stale = true } }
+stayed s r = record { filter = s; reply = record { refusal = r; given = []; stale = true; bytes = [] } }
 
 -- an answer
 abbrev pub answering : Verdict → Filter → Answer

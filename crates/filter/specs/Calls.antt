@@ -28,10 +28,11 @@ use Rattle.filter.specs.declared.Kept.{Kept}
 use Rattle.filter.specs.declared.Sheet.{Sheet}
 use Rattle.filter.specs.declared.Filter.{Filter}
 use Rattle.filter.specs.declared.measurement.Intake.{Intake}
-use Rattle.filter.specs.Asked.{Size, Lent, Param, by-params, by-kind, Asks}
+use Rattle.filter.specs.Asked.{Size, Lent, of-numbers, of-bytes, Param, by-params, by-kind, Asks}
+use Rattle.filter.specs.Records.{recordLength, bytesOf}
 use Rattle.filter.specs.Filters.{isShut, isPredicting, isCorrecting, isPredictingStepped, isCorrectingStepped, isStepped, keeping, Writing, q-set, params-set, kinds-set, Setting, x-set, p-set, opened-prediction, opened-correction, opened-prediction-stepped, opened-correction-stepped, Change, writes, sets, closes, keeps, abandons, reads}
 
--- ---- the calls with their inputs, by what may be open when they are taken: nothing; their own; anything. A list is a lent slice.
+-- ---- the calls with their inputs, by what may be open when they are taken: nothing; their own; anything (of the readings all but save, which wants nothing open). A list is a lent slice. Save is the f64 filter's alone, and so is load (Load.antt).
 
 -- with nothing open, those that change the sheet
 pub data SheetCall : Type 0 where
@@ -73,6 +74,8 @@ withList (close-correction-flat-stepped m z r) v = close-correction-flat m z r v
 pub data ReadCall : Type 0 where
   read-x read-p read-q read-points : List Float → ReadCall
   read-params read-stale : ReadCall
+  -- the record of the filter, into lent bytes; with nothing open
+  save : List ℕ → ReadCall
 
 pub data Call : Type 0 where
   writing : SheetCall → Call
@@ -91,7 +94,7 @@ opening Correcting b = setting (open-correction b)
 opening PredictingStepped b = setting (open-prediction b)
 opening CorrectingStepped b = setting (open-prediction b)
 
--- ---- 3: while a call is open only its own close, abandon and the readings are taken, and in a stepped one its own steps; a stepped close ends no whole-list call, nor the other way round
+-- ---- 3: while a call is open only its own close, abandon and the readings but save are taken, and in a stepped one its own steps; a stepped close ends no whole-list call, nor the other way round
 
 abbrev pub ownOpen : CloseCall → Stage → Bool
 ownOpen (close-prediction points) t = isPredicting t
@@ -113,6 +116,15 @@ ownStepped close-prediction-stepped t = isPredictingStepped t
 ownStepped (close-correction-stepped m z r kinds) t = isCorrectingStepped t
 ownStepped (close-correction-flat-stepped m z r) t = isCorrectingStepped t
 
+abbrev pub ownRead : ReadCall → Stage → Bool
+ownRead (read-x b) t = true
+ownRead (read-p b) t = true
+ownRead (read-q b) t = true
+ownRead (read-points b) t = true
+ownRead read-params t = true
+ownRead read-stale t = true
+ownRead (save b) t = isShut t
+
 abbrev pub fits : Call → Filter → Bool
 fits (writing c) s = isShut (s .track .stage)
 fits (setting c) s = isShut (s .track .stage)
@@ -120,15 +132,18 @@ fits (stepping c) s = ownStep c s
 fits (closing c) s = ownOpen c (s .track .stage)
 fits (closing-stepped c) s = ownStepped c (s .track .stage) && not (due s)
 fits abandon s = not (isShut (s .track .stage))
-fits (reading c) s = true
+fits (reading c) s = ownRead c (s .track .stage)
 
--- ---- what each call needs beside that and 1 to 8 states: sizes; lent slices with how much of each is needed; whether stale stops it; the slices whose numbers come in, in the order of the search; kinds that have to be plain; what has to pass 6
+-- ---- what each call needs beside that and 1 to 8 states: sizes; lent slices with how much of each is needed; whether stale stops it, or its not being so; the slices whose numbers come in, in the order of the search; kinds that have to be plain; what has to pass 6
 
 abbrev pub sized : ℕ → ℕ → ℕ → List Size
 sized v from to = record { value = v; from = from; to = to } ∷ []
 
 abbrev pub lend : List Float → ℕ → List Lent
-lend slice needs = record { slice = slice; needs = needs } ∷ []
+lend slice needs = of-numbers slice needs ∷ []
+
+abbrev pub lendBytes : List ℕ → ℕ → List Lent
+lendBytes slice needs = of-bytes slice needs ∷ []
 
 -- the number that each kind brings in, at the kind's own index: a plain one keeps its place
 abbrev pub halves : List Kind → List Float
@@ -147,6 +162,7 @@ pub record Needs : Type 0 where
   pub sizes : List Size
   pub lent : List Lent
   pub stale : Bool
+  pub fresh : Bool
   pub inputs : List Input
   pub plain : List Kind
   pub params : List Param
@@ -161,13 +177,13 @@ namedBy k close-prediction-stepped = []
 namedBy k (close-correction-stepped m z r kinds) = named k m
 namedBy k (close-correction-flat-stepped m z r) = named k m
 
--- a line of the table of calls that asks no kind to be plain
+-- a line of the table of calls that asks no kind to be plain, and that a filter that isn't stale passes
 abbrev pub needing : List Size → List Lent → Bool → List Input → List Param → Needs
-needing sizes lent stale inputs params = record { sizes = sizes; lent = lent; stale = stale; inputs = inputs; plain = []; params = params }
+needing sizes lent stale inputs params = record { sizes = sizes; lent = lent; stale = stale; fresh = false; inputs = inputs; plain = []; params = params }
 
 -- the same, and that these kinds be plain
 abbrev pub needingPlain : List Kind → Needs → Needs
-needingPlain kinds a = record { sizes = a .sizes; lent = a .lent; stale = a .stale; inputs = a .inputs; plain = kinds; params = a .params }
+needingPlain kinds a = record { sizes = a .sizes; lent = a .lent; stale = a .stale; fresh = a .fresh; inputs = a .inputs; plain = kinds; params = a .params }
 
 -- the numbers of 2n+1 observed points of m
 abbrev pub observedNumbers : ℕ → ℕ → ℕ
@@ -209,7 +225,7 @@ closeNeeds s (close-correction-flat m z r observed) =
 
 -- what is needed, and these sizes beside
 abbrev pub besides : List Size → Needs → Needs
-besides sizes a = record { sizes = sizes ++ a .sizes; lent = a .lent; stale = a .stale; inputs = a .inputs; plain = a .plain; params = a .params }
+besides sizes a = record { sizes = sizes ++ a .sizes; lent = a .lent; stale = a .stale; fresh = a .fresh; inputs = a .inputs; plain = a .plain; params = a .params }
 
 abbrev pub needs : Filter → Call → Needs
 needs s (writing c) = sheetNeeds (s .sheet) c
@@ -232,10 +248,11 @@ needs s (reading (read-q b)) = needing [] (lend b (s .sheet .n * s .sheet .n)) f
 needs s (reading (read-points b)) = needing [] (lend b (pointNumbers (s .sheet .n))) (s .track .stale) [] []
 needs s (reading read-params) = needing [] [] false [] []
 needs s (reading read-stale) = needing [] [] false [] []
+needs s (reading (save b)) = record { sizes = []; lent = lendBytes b (recordLength (s .sheet .n)); stale = false; fresh = not (s .track .stale); inputs = []; plain = []; params = [] }
 
 -- what is asked in all: that the call fits what is open, 1 to 8 states, and the rest
 abbrev pub asking : Bool → ℕ → Needs → Asks
-asking fits n a = record { fits = fits; sizes = record { value = n; from = 1; to = 8 } ∷ a .sizes; lent = a .lent; stale = a .stale; inputs = a .inputs; plain = a .plain; params = a .params }
+asking fits n a = record { fits = fits; sizes = record { value = n; from = 1; to = 8 } ∷ a .sizes; lent = a .lent; formed = true; stale = a .stale; fresh = a .fresh; inputs = a .inputs; plain = a .plain; params = a .params }
 
 abbrev pub line : Bool → ℕ → List Size → List Lent → Bool → List Input → List Param → Asks
 line fits n sizes lent stale inputs params = asking fits n (needing sizes lent stale inputs params)
@@ -243,15 +260,16 @@ line fits n sizes lent stale inputs params = asking fits n (needing sizes lent s
 abbrev pub asks : Filter → Call → Asks
 asks s c = asking (fits c s) (s .sheet .n) (needs s c)
 
--- ---- what a call does once taken: its change, the numbers that it hands out, and what a reading of the stale mark answers (elsewhere true, which tells nothing)
+-- ---- what a call does once taken: its change, the numbers that it hands out, what a reading of the stale mark answers (elsewhere true, which tells nothing), and the bytes that it hands out, those of a saved record alone
 
 pub record Done : Type 0 where
   pub change : Change
   pub given : List Float
   pub stale : Bool
+  pub bytes : List ℕ
 
 abbrev pub done : Change → List Float → Done
-done c given = record { change = c; given = given; stale = true }
+done c given = record { change = c; given = given; stale = true; bytes = [] }
 
 abbrev pub writingOf : Sheet → SheetCall → Writing
 writingOf s (set-q v) = q-set (front (s .n * s .n) v (zeros 64))
@@ -324,4 +342,5 @@ module _ (f : Format) where
   plan s (reading (read-q b)) = finish (done reads (take (s .sheet .n * s .sheet .n) (s .sheet .q)))
   plan s (reading (read-points b)) = finish (done reads (take (pointNumbers (s .sheet .n)) (s .track .points)))
   plan s (reading read-params) = finish (done reads (valuesOf (s .sheet .params)))
-  plan s (reading read-stale) = finish (record { change = reads; given = []; stale = s .track .stale })
+  plan s (reading read-stale) = finish (record { change = reads; given = []; stale = s .track .stale; bytes = [] })
+  plan s (reading (save b)) = finish (record { change = reads; given = []; stale = true; bytes = bytesOf s })

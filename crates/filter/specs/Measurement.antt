@@ -1,6 +1,6 @@
 -- The measurement that a close of a correction is lent, as the code takes it in: tested in the order of the refusals beside what else the close asks, and laid out in arrays. Definitions only.
 use Prim.Native.Nat.{ℕ}
-use mathlib.Core.Bool.{Bool, false}
+use mathlib.Core.Bool.{Bool, true, false}
 use mathlib.Core.List.{List, _∷_}
 use lib.Ieee.{Float}
 use Rattle.floats.specs.declared.Verdict.{Verdict}
@@ -35,7 +35,7 @@ module _ (l : Lending) where
   searchedIn = searched (inputsMeasured (l .n) (l .m) (l .z) (l .r) (l .observed) (l .turns))
 
   abbrev pub lentInOrder : {A : Type 0} → Outcome A → Outcome A
-  lentInOrder o = inOrder (l .fits) sizesDo longEnough false searchedIn (l .plain) (l .passing) o
+  lentInOrder o = inOrder (l .fits) sizesDo longEnough true false false searchedIn (l .plain) (l .passing) o
 
   abbrev pub takenIn : Outcome Intake
   takenIn = lentInOrder (accepted (measurement (l .n) (l .m) (l .z) (l .r) (l .observed)))

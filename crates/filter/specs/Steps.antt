@@ -1,4 +1,5 @@
 -- One step of a filter: every contract of a call cites it. A refused call changes nothing and hands out nothing. Definitions only.
+use Prim.Native.Nat.{ℕ}
 use mathlib.Core.Bool.{Bool, true, cond}
 use mathlib.Core.List.{List, []}
 use lib.Dec.{eqb}
@@ -22,19 +23,20 @@ use Rattle.filter.specs.Calls.{Call, asks, Done, plan}
 abbrev pub outcome : Format → Filter → Call → Outcome Done
 outcome f s c = guarded f (asks s c) (run (plan f s c))
 
--- what a call tells: its number and place, the numbers that it hands out, which go to the front of the lent buffer, and a reading's stale mark
+-- what a call tells: its number and place, the numbers that it hands out, which go to the front of the lent buffer, a reading's stale mark, and the bytes of a saved record, which go to the front of the lent bytes
 pub record Reply : Type 0 where
   pub refusal : Verdict
   pub given : List Float
   pub stale : Bool
+  pub bytes : List ℕ
 
 pub record Stepped : Type 0 where
   pub filter : Filter
   pub reply : Reply
 
 abbrev pub stepped : Filter → Outcome Done → Stepped
-stepped s (refused r) = record { filter = s; reply = record { refusal = verdict r; given = []; stale = true } }
-stepped s (accepted d) = record { filter = changed s (d .change); reply = record { refusal = taken; given = d .given; stale = d .stale } }
+stepped s (refused r) = record { filter = s; reply = record { refusal = verdict r; given = []; stale = true; bytes = [] } }
+stepped s (accepted d) = record { filter = changed s (d .change); reply = record { refusal = taken; given = d .given; stale = d .stale; bytes = d .bytes } }
 
 unfoldable pub step : Format → Filter → Call → Stepped
 unfolding guarded run

@@ -12,7 +12,7 @@ use floats::Verdict;
 
 // What comes before the numbers, in the order 3, 1, 2, 4; else 0.
 pub fn early_refusal(fits: bool, sized: bool, long: bool, stale: bool) -> Verdict
-    ensures { λ r. ⌜ r ≡ refusal (inOrder fits sized long stale nothing true true nothing) ⌝ }
+    ensures { λ r. ⌜ r ≡ refusal (inOrder fits sized long true stale false nothing true true nothing) ⌝ }
 {
     if !fits {
         return floats::placeless(3);
@@ -39,7 +39,7 @@ pub fn first_refusal(
     plain: bool,
     passing: bool,
 ) -> Verdict
-    ensures { λ r. ⌜ r ≡ earlier (refusal (inOrder fits sized long stale nothing true true nothing)) (earlier found (refusal (inOrder true true true false nothing plain passing nothing))) ⌝ }
+    ensures { λ r. ⌜ r ≡ earlier (refusal (inOrder fits sized long true stale false nothing true true nothing)) (earlier found (refusal (inOrder true true true true false false nothing plain passing nothing))) ⌝ }
 {
     let early = early_refusal(fits, sized, long, stale);
     if early.number != 0 {

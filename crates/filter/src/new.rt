@@ -45,7 +45,7 @@ fn fresh_sheet(n: usize, q: [f64; 64], params: Params) -> Sheet
 }
 
 // Stale, nothing open; points, weights and scratch at +0.
-fn fresh_track(x: [f64; 8], p: [f64; 64]) -> Track
+pub fn fresh_track(x: [f64; 8], p: [f64; 64]) -> Track
     ensures { λ r. ⌜ r ≡ freshTrack x p ⌝ }
 {
     let kept = drawn::nothing_kept();

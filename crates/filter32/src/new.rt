@@ -46,7 +46,7 @@ fn fresh_sheet(n: usize, q: [f32; 64], params: Params) -> Sheet
 }
 
 // Stale, nothing open; points, weights and scratch at +0.
-fn fresh_track(x: [f32; 8], p: [f32; 64]) -> Track
+pub fn fresh_track(x: [f32; 8], p: [f32; 64]) -> Track
     ensures { λ r. ⌜ wideTrack r ≡ freshTrack x p ⌝ }
 {
     Track {

@@ -9,7 +9,7 @@ use lib.Dec.{eqb}
 use Rattle.floats.specs.declared.Slice.{Slice}
 use Rattle.floats.specs.declared.Slice.the-variants.{State, Covariance, Noise, Points, Measurement, Lone}
 use Rattle.floats.specs.declared.Verdict.{Verdict}
-use Rattle.floats.specs.Refusal.{Refusal, SIZE, SHORT, STAGE, STALE, NUMBER, PARAM, PIVOT, INNOV, RANGE, KIND, sliceNumber, verdict, earlier, Outcome, refused, accepted, refusal, or, unless, onward}
+use Rattle.floats.specs.Refusal.{Refusal, SIZE, SHORT, STAGE, STALE, NUMBER, PARAM, PIVOT, INNOV, RANGE, KIND, FRESH, RECORD, sliceNumber, verdict, earlier, Outcome, refused, accepted, refusal, or, unless, onward}
 
 abbrev pub number : Refusal → ℕ
 number r = verdict r .number
@@ -37,6 +37,8 @@ number-above (PIVOT i) = omega arith
 number-above (INNOV i) = omega arith
 number-above RANGE = omega arith
 number-above KIND = omega arith
+number-above FRESH = omega arith
+number-above RECORD = omega arith
 
 -- number and place give the refusal back
 unfoldable pub named : Verdict → Refusal
@@ -50,12 +52,14 @@ named v =
     (cond (eqb (v .number) 8) (INNOV (v .place))
     (cond (eqb (v .number) 9) RANGE
     (cond (eqb (v .number) 10) KIND
+    (cond (eqb (v .number) 11) FRESH
+    (cond (eqb (v .number) 12) RECORD
     (cond (eqb (v .number) 51) (NUMBER State (v .place))
     (cond (eqb (v .number) 52) (NUMBER Covariance (v .place))
     (cond (eqb (v .number) 53) (NUMBER Noise (v .place))
     (cond (eqb (v .number) 54) (NUMBER Points (v .place))
     (cond (eqb (v .number) 55) (NUMBER Measurement (v .place))
-    (NUMBER Lone (v .place)))))))))))))))
+    (NUMBER Lone (v .place)))))))))))))))))
 
 named-verdict : (r : Refusal) → named (verdict r) ≡ r
 unfolding named
@@ -68,6 +72,8 @@ named-verdict (PIVOT j) = refl
 named-verdict (INNOV j) = refl
 named-verdict RANGE = refl
 named-verdict KIND = refl
+named-verdict FRESH = refl
+named-verdict RECORD = refl
 named-verdict (NUMBER State i) = refl
 named-verdict (NUMBER Covariance i) = refl
 named-verdict (NUMBER Noise i) = refl

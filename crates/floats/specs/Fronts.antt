@@ -9,5 +9,5 @@ unfoldable pub front : ℕ → List Float → List Float → List Float
 front k s d = take k s ++ drop k d
 
 -- w over the front of a lent buffer b; the rest of b stays
-abbrev pub over : List Float → List Float → List Float
+abbrev pub over : {A : Type 0} → List A → List A → List A
 over w b = w ++ drop (length w) b

@@ -8,7 +8,7 @@ use Rattle.floats.specs.declared.Verdict.{Verdict}
 
 -- the table: a bad number by its slice and its place there, a bad pivot by its row
 pub data Refusal : Type 0 where
-  SIZE SHORT STAGE STALE PARAM RANGE KIND : Refusal
+  SIZE SHORT STAGE STALE PARAM RANGE KIND FRESH RECORD : Refusal
   NUMBER : Slice → ℕ → Refusal
   PIVOT INNOV : ℕ → Refusal
 
@@ -37,6 +37,8 @@ verdict (PIVOT j) = record { number = 7; place = j }
 verdict (INNOV j) = record { number = 8; place = j }
 verdict RANGE = placeless 9
 verdict KIND = placeless 10
+verdict FRESH = placeless 11
+verdict RECORD = placeless 12
 
 -- a bad number that stands alone: 56 at 0
 abbrev pub badLone : Refusal

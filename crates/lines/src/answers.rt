@@ -56,6 +56,15 @@ pub fn buffer(a: Done, lent: &[f64], out: &mut [u8], used: usize) -> Turn
     }
 }
 
+// Number and place, and all of the lent bytes.
+pub fn bytes(refusal: Verdict, lent: &[u8], out: &mut [u8], used: usize) -> usize {
+    let at = script::put_verdict(out, used, refusal);
+    let at = script::put(out, at, b" ");
+    let at = script::put_decimal(out, at, lent.len() as u64);
+    let at = script::put_bytes(out, at, lent);
+    script::put(out, at, b"\n")
+}
+
 // A label, and the numbers of an array of a filter: its states, a matrix, the first two weights, the first k of a point list.
 fn put_states(out: &mut [u8], used: usize, label: &[u8], x: &[f64; 8], n: usize) -> usize {
     let at = script::put(out, used, label);

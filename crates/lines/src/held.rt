@@ -66,11 +66,11 @@ pub fn paired(held: Held, a: PairAnswer) -> Done
     Done { held, refusal }
 }
 
-// A reading leaves both.
-fn read(held: Held, refusal: Verdict) -> Done
-    ensures { λ r. ⌜ r ≡ record { held = held; refusal = refusal } ⌝ }
+// A reading leaves the pair.
+fn read(pair: Pair, refusal: Verdict) -> PairAnswer
+    ensures { λ r. ⌜ r ≡ record { pair = pair; refusal = refusal } ⌝ }
 {
-    Done { held, refusal }
+    PairAnswer { pair, refusal }
 }
 
 // The filter, or a side with the sheet.
@@ -96,94 +96,71 @@ pub fn shown(held: Held) -> Filter {
 }
 
 // What a call does that is lent a list.
-fn side_list(name: Name, held: Held, side: Side, list: &[f64]) -> Done {
-    let pair = held.pair;
+fn side_list(name: Name, pair: Pair, side: Side, list: &[f64]) -> PairAnswer {
     match name {
-        Name::SetX => paired(held, pair.set_x(side, list)),
-        Name::SetP => paired(held, pair.set_p(side, list)),
-        Name::SetQ => paired(held, pair.set_q(list)),
-        Name::ImagePrediction => paired(held, pair.image_prediction(side, list)),
-        _ => paired(held, pair.close_prediction(side, list)),
+        Name::SetX => pair.set_x(side, list),
+        Name::SetP => pair.set_p(side, list),
+        Name::SetQ => pair.set_q(list),
+        Name::ImagePrediction => pair.image_prediction(side, list),
+        _ => pair.close_prediction(side, list),
     }
 }
 
 pub fn with_list(name: Name, held: Held, list: &[f64]) -> Done {
     let filter = held.filter;
+    let pair = held.pair;
     let whose = held.whose;
     match whose {
         Whose::Alone => alone(held, solo::with_list(name, filter, list)),
-        Whose::On(side) => side_list(name, held, side, list),
+        Whose::On(side) => paired(held, side_list(name, pair, side, list)),
     }
 }
 
-// A call that is lent a buffer.
-fn side_buffer(name: Name, held: Held, side: Side, buffer: &mut [f64]) -> Done {
-    let pair = held.pair;
+// What a reading does, and any call that is lent a buffer.
+fn side_reading(name: Name, pair: Pair, side: Side, buffer: &mut [f64]) -> Verdict {
     match name {
-        Name::OpenPrediction => paired(held, pair.open_prediction(side, buffer)),
-        Name::OpenCorrection => paired(held, pair.open_correction(side, buffer)),
-        Name::Ask => paired(held, pair.ask(side, buffer)),
-        Name::ReadX => read(held, pair.read_x(side, buffer)),
-        Name::ReadP => read(held, pair.read_p(side, buffer)),
-        Name::ReadQ => read(held, pair.read_q(side, buffer)),
-        _ => read(held, pair.read_points(side, buffer)),
+        Name::ReadX => pair.read_x(side, buffer),
+        Name::ReadP => pair.read_p(side, buffer),
+        Name::ReadQ => pair.read_q(side, buffer),
+        _ => pair.read_points(side, buffer),
+    }
+}
+
+fn side_buffer(name: Name, pair: Pair, side: Side, buffer: &mut [f64]) -> PairAnswer {
+    match name {
+        Name::OpenPrediction => pair.open_prediction(side, buffer),
+        Name::OpenCorrection => pair.open_correction(side, buffer),
+        Name::Ask => pair.ask(side, buffer),
+        _ => read(pair, side_reading(name, pair, side, buffer)),
     }
 }
 
 pub fn with_buffer(name: Name, held: Held, buffer: &mut [f64]) -> Done {
     let filter = held.filter;
+    let pair = held.pair;
     let whose = held.whose;
     match whose {
         Whose::Alone => alone(held, solo::with_buffer(name, filter, buffer)),
-        Whose::On(side) => side_buffer(name, held, side, buffer),
+        Whose::On(side) => paired(held, side_buffer(name, pair, side, buffer)),
     }
 }
 
 // The closes of a correction; a stepped one has no observed points.
-fn alone_close(
-    name: Name,
-    held: Held,
-    m: usize,
-    z: &[f64],
-    r: &[f64],
-    kinds: [Kind; 4],
-    observed: &[f64],
-) -> Done {
-    let filter = held.filter;
-    match name {
-        Name::CloseCorrection => alone(held, filter.close_correction(m, z, r, kinds, observed)),
-        Name::CloseCorrectionStepped => {
-            alone(held, stepped::close_correction(filter, m, z, r, kinds))
-        }
-        Name::CloseCorrectionFlatStepped => {
-            alone(held, stepped::close_correction_flat(filter, m, z, r))
-        }
-        _ => alone(held, filter.close_correction_flat(m, z, r, observed)),
-    }
-}
-
 fn side_close(
     name: Name,
-    held: Held,
+    pair: Pair,
     side: Side,
     m: usize,
     z: &[f64],
     r: &[f64],
     kinds: [Kind; 4],
     observed: &[f64],
-) -> Done {
-    let pair = held.pair;
+) -> PairAnswer {
     match name {
-        Name::CloseCorrection => {
-            paired(held, pair.close_correction(side, m, z, r, kinds, observed))
-        }
-        Name::CloseCorrectionStepped => {
-            paired(held, pair.close_correction_stepped(side, m, z, r, kinds))
-        }
-        Name::CloseCorrectionFlatStepped => {
-            paired(held, pair.close_correction_flat_stepped(side, m, z, r))
-        }
-        _ => paired(held, pair.close_correction_flat(side, m, z, r, observed)),
+        Name::CloseCorrection => pair.close_correction(side, m, z, r, kinds, observed),
+        Name::CloseCorrectionStepped => pair.close_correction_stepped(side, m, z, r, kinds),
+        Name::CloseCorrectionFlatStepped => pair.close_correction_flat_stepped(side, m, z, r),
+        _ => pair.close_correction_flat(side, m, z, r, observed),
     }
 }
 
@@ -196,37 +173,34 @@ pub fn with_measurement(
     kinds: [Kind; 4],
     observed: &[f64],
 ) -> Done {
+    let filter = held.filter;
+    let pair = held.pair;
     let whose = held.whose;
     match whose {
-        Whose::Alone => alone_close(name, held, m, z, r, kinds, observed),
-        Whose::On(side) => side_close(name, held, side, m, z, r, kinds, observed),
+        Whose::Alone => alone(
+            held,
+            solo::with_measurement(name, filter, m, z, r, kinds, observed),
+        ),
+        Whose::On(side) => paired(held, side_close(name, pair, side, m, z, r, kinds, observed)),
     }
 }
 
 // The stepped calls that are lent nothing.
-fn alone_stepped(name: Name, held: Held) -> Done {
-    let filter = held.filter;
+fn side_stepped(name: Name, pair: Pair, side: Side) -> PairAnswer {
     match name {
-        Name::OpenPredictionStepped => alone(held, stepped::open_prediction(filter)),
-        Name::OpenCorrectionStepped => alone(held, stepped::open_correction(filter)),
-        _ => alone(held, stepped::close_prediction(filter)),
-    }
-}
-
-fn side_stepped(name: Name, held: Held, side: Side) -> Done {
-    let pair = held.pair;
-    match name {
-        Name::OpenPredictionStepped => paired(held, pair.open_prediction_stepped(side)),
-        Name::OpenCorrectionStepped => paired(held, pair.open_correction_stepped(side)),
-        _ => paired(held, pair.close_prediction_stepped(side)),
+        Name::OpenPredictionStepped => pair.open_prediction_stepped(side),
+        Name::OpenCorrectionStepped => pair.open_correction_stepped(side),
+        _ => pair.close_prediction_stepped(side),
     }
 }
 
 pub fn with_nothing(name: Name, held: Held) -> Done {
+    let filter = held.filter;
+    let pair = held.pair;
     let whose = held.whose;
     match whose {
-        Whose::Alone => alone_stepped(name, held),
-        Whose::On(side) => side_stepped(name, held, side),
+        Whose::Alone => alone(held, solo::with_nothing(name, filter)),
+        Whose::On(side) => paired(held, side_stepped(name, pair, side)),
     }
 }
 
@@ -277,6 +251,17 @@ pub fn read_params(held: Held) -> ParamsRead {
     match whose {
         Whose::Alone => filter.read_params(),
         Whose::On(side) => pair.read_params(side),
+    }
+}
+
+// The record of the filter or of a side.
+pub fn save(held: Held, out: &mut [u8]) -> Verdict {
+    let filter = held.filter;
+    let pair = held.pair;
+    let whose = held.whose;
+    match whose {
+        Whose::Alone => records::save(filter, out),
+        Whose::On(side) => pair.save(side, out),
     }
 }
 

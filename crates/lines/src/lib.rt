@@ -10,9 +10,10 @@ use sigma::Params;
 pub mod answers;
 mod calls;
 pub mod held;
+mod saved;
 mod solo;
 
-// Before the first `new` stands the empty filter, and before the first `newpair` the empty pair, as New gives them where it refuses.
+// Before the first `new` or `load` stands the empty filter, and before the first `newpair` the empty pair, as New gives them where it refuses.
 pub fn start() -> Held {
     let params = Params {
         alpha: 0.0,

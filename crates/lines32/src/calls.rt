@@ -13,6 +13,37 @@ use script32::KindRead;
 use script32::NumberRead;
 use sigma32::Params;
 
+// A size, a number, a list with which the line ends.
+pub fn last_size(s: &[u8], at: usize) -> SizeRead {
+    let SizeRead::Size { value, next } = script::size_at(s, at) else {
+        return SizeRead::NoSize;
+    };
+    if !script::no_token(s, next) {
+        return SizeRead::NoSize;
+    }
+    SizeRead::Size { value, next }
+}
+
+fn last_number(s: &[u8], at: usize) -> NumberRead {
+    let NumberRead::Number { value, next } = script32::number_at(s, at) else {
+        return NumberRead::NoNumber;
+    };
+    if !script::no_token(s, next) {
+        return NumberRead::NoNumber;
+    }
+    NumberRead::Number { value, next }
+}
+
+fn last_list(s: &[u8], at: usize, list: &mut [f32; 512]) -> ListRead {
+    let ListRead::Numbers { len, next } = script32::list_at(s, at, list) else {
+        return ListRead::NoList;
+    };
+    if !script::no_token(s, next) {
+        return ListRead::NoList;
+    }
+    ListRead::Numbers { len, next }
+}
+
 // Three parameters and the place after them, or none.
 enum ParamsAt {
     Three { params: Params, next: usize },
@@ -33,6 +64,49 @@ fn params_at(s: &[u8], at: usize) -> ParamsAt {
     ParamsAt::Three { params, next }
 }
 
+// Two lists and the place after them, or none.
+enum TwoAt {
+    Two {
+        first: usize,
+        second: usize,
+        next: usize,
+    },
+    NoLists,
+}
+
+fn two_lists_at(s: &[u8], at: usize, a: &mut [f32; 512], b: &mut [f32; 512]) -> TwoAt {
+    let ListRead::Numbers { len: first, next } = script32::list_at(s, at, a) else {
+        return TwoAt::NoLists;
+    };
+    let ListRead::Numbers { len: second, next } = script32::list_at(s, next, b) else {
+        return TwoAt::NoLists;
+    };
+    TwoAt::Two {
+        first,
+        second,
+        next,
+    }
+}
+
+// The end of a new, LIST(Q) alpha beta kappa, or none.
+enum SheetAt {
+    Sheet { of_q: usize, params: Params },
+    NoSheet,
+}
+
+fn sheet_at(s: &[u8], at: usize, q: &mut [f32; 512]) -> SheetAt {
+    let ListRead::Numbers { len: of_q, next } = script32::list_at(s, at, q) else {
+        return SheetAt::NoSheet;
+    };
+    let ParamsAt::Three { params, next } = params_at(s, next) else {
+        return SheetAt::NoSheet;
+    };
+    if !script::no_token(s, next) {
+        return SheetAt::NoSheet;
+    }
+    SheetAt::Sheet { of_q, params }
+}
+
 // new n LIST(x) LIST(P) LIST(Q) alpha beta kappa
 fn new(held: Filter, s: &[u8], at: usize, out: &mut [u8], used: usize) -> Turn {
     let mut x = [0.0f32; 512];
@@ -41,23 +115,19 @@ fn new(held: Filter, s: &[u8], at: usize, out: &mut [u8], used: usize) -> Turn {
     let SizeRead::Size { value: n, next } = script::size_at(s, at) else {
         return answers::bad(held, out, used);
     };
-    let ListRead::Numbers { len: of_x, next } = script32::list_at(s, next, &mut x) else {
+    let TwoAt::Two {
+        first,
+        second,
+        next,
+    } = two_lists_at(s, next, &mut x, &mut p)
+    else {
         return answers::bad(held, out, used);
     };
-    let ListRead::Numbers { len: of_p, next } = script32::list_at(s, next, &mut p) else {
+    let SheetAt::Sheet { of_q, params } = sheet_at(s, next, &mut q) else {
         return answers::bad(held, out, used);
     };
-    let ListRead::Numbers { len: of_q, next } = script32::list_at(s, next, &mut q) else {
-        return answers::bad(held, out, used);
-    };
-    let ParamsAt::Three { params, next } = params_at(s, next) else {
-        return answers::bad(held, out, used);
-    };
-    if !script::no_token(s, next) {
-        return answers::bad(held, out, used);
-    }
-    let x = script32::front(&x, of_x);
-    let p = script32::front(&p, of_p);
+    let x = script32::front(&x, first);
+    let p = script32::front(&p, second);
     let q = script32::front(&q, of_q);
     let made = Filter::new(n as usize, x, p, q, params);
     answers::number(made, out, used)
@@ -66,12 +136,9 @@ fn new(held: Filter, s: &[u8], at: usize, out: &mut [u8], used: usize) -> Turn {
 // setx LIST, setp LIST, setq LIST
 fn set(name: Name, held: Filter, s: &[u8], at: usize, out: &mut [u8], used: usize) -> Turn {
     let mut list = [0.0f32; 512];
-    let ListRead::Numbers { len, next } = script32::list_at(s, at, &mut list) else {
+    let ListRead::Numbers { len, next: _ } = last_list(s, at, &mut list) else {
         return answers::bad(held, out, used);
     };
-    if !script::no_token(s, next) {
-        return answers::bad(held, out, used);
-    }
     let done = solo::with_list(name, held, script32::front(&list, len));
     answers::number(done, out, used)
 }
@@ -79,12 +146,9 @@ fn set(name: Name, held: Filter, s: &[u8], at: usize, out: &mut [u8], used: usiz
 // closep LIST
 fn close_prediction(held: Filter, s: &[u8], at: usize, out: &mut [u8], used: usize) -> Turn {
     let mut list = [0.0f32; 512];
-    let ListRead::Numbers { len, next } = script32::list_at(s, at, &mut list) else {
+    let ListRead::Numbers { len, next: _ } = last_list(s, at, &mut list) else {
         return answers::bad(held, out, used);
     };
-    if !script::no_token(s, next) {
-        return answers::bad(held, out, used);
-    }
     let list = script32::front(&list, len);
     let done = solo::with_list(Name::ClosePrediction, held, list);
     answers::close(done, out, used)
@@ -118,13 +182,10 @@ fn set_kind(held: Filter, s: &[u8], at: usize, out: &mut [u8], used: usize) -> T
 
 // openp BUF, openc BUF, readx BUF, readp BUF, readq BUF, readpts BUF
 fn lend(name: Name, held: Filter, s: &[u8], at: usize, out: &mut [u8], used: usize) -> Turn {
-    let SizeRead::Size { value, next } = script::size_at(s, at) else {
+    let SizeRead::Size { value, next: _ } = last_size(s, at) else {
         return answers::bad(held, out, used);
     };
     if 512 < value {
-        return answers::bad(held, out, used);
-    }
-    if !script::no_token(s, next) {
         return answers::bad(held, out, used);
     }
     let len = value as usize;
@@ -171,6 +232,42 @@ fn kinds_at(s: &[u8], at: usize) -> FourKinds {
     }
 }
 
+// What a close reads after R: its kinds and how many numbers of observed points; not found where that is not all there is.
+struct Closing {
+    found: bool,
+    kinds: [Kind; 4],
+    observed: usize,
+}
+
+fn no_closing() -> Closing {
+    let four = four_plain(false, 0);
+    let kinds = four.kinds;
+    Closing {
+        found: false,
+        kinds,
+        observed: 0,
+    }
+}
+
+fn closing_at(s: &[u8], at: usize, list: &mut [f32; 512]) -> Closing {
+    let four = kinds_at(s, at);
+    if !four.found {
+        return no_closing();
+    }
+    let ListRead::Numbers { len, next } = script32::list_at(s, four.next, list) else {
+        return no_closing();
+    };
+    if !script::no_token(s, next) {
+        return no_closing();
+    }
+    let kinds = four.kinds;
+    Closing {
+        found: true,
+        kinds,
+        observed: len,
+    }
+}
+
 // closec m LIST(z) LIST(R) KIND KIND KIND KIND LIST(observed)
 fn close_correction(held: Filter, s: &[u8], at: usize, out: &mut [u8], used: usize) -> Turn {
     let mut z = [0.0f32; 512];
@@ -179,26 +276,22 @@ fn close_correction(held: Filter, s: &[u8], at: usize, out: &mut [u8], used: usi
     let SizeRead::Size { value: m, next } = script::size_at(s, at) else {
         return answers::bad(held, out, used);
     };
-    let ListRead::Numbers { len: of_z, next } = script32::list_at(s, next, &mut z) else {
+    let TwoAt::Two {
+        first,
+        second,
+        next,
+    } = two_lists_at(s, next, &mut z, &mut r)
+    else {
         return answers::bad(held, out, used);
     };
-    let ListRead::Numbers { len: of_r, next } = script32::list_at(s, next, &mut r) else {
-        return answers::bad(held, out, used);
-    };
-    let four = kinds_at(s, next);
-    if !four.found {
+    let rest = closing_at(s, next, &mut observed);
+    if !rest.found {
         return answers::bad(held, out, used);
     }
-    let ListRead::Numbers { len, next } = script32::list_at(s, four.next, &mut observed) else {
-        return answers::bad(held, out, used);
-    };
-    if !script::no_token(s, next) {
-        return answers::bad(held, out, used);
-    }
-    let z = script32::front(&z, of_z);
-    let r = script32::front(&r, of_r);
-    let observed = script32::front(&observed, len);
-    let kinds = four.kinds;
+    let z = script32::front(&z, first);
+    let r = script32::front(&r, second);
+    let observed = script32::front(&observed, rest.observed);
+    let kinds = rest.kinds;
     let done = held.close_correction(m as usize, z, r, kinds, observed);
     answers::close(done, out, used)
 }
@@ -222,12 +315,9 @@ fn point(held: Filter, s: &[u8], at: usize, out: &mut [u8], used: usize) -> Turn
     let SizeRead::Size { value: k, next } = script::size_at(s, next) else {
         return answers::bad(held, out, used);
     };
-    let ListRead::Numbers { len, next } = script32::list_at(s, next, &mut list) else {
+    let ListRead::Numbers { len, next: _ } = last_list(s, next, &mut list) else {
         return answers::bad(held, out, used);
     };
-    if !script::no_token(s, next) {
-        return answers::bad(held, out, used);
-    }
     let list = script32::front(&list, len);
     let used = point_of(n as usize, k as usize, list, out, used);
     Turn { held, used }
@@ -238,12 +328,9 @@ fn wrap(held: Filter, s: &[u8], at: usize, out: &mut [u8], used: usize) -> Turn 
     let NumberRead::Number { value: d, next } = script32::number_at(s, at) else {
         return answers::bad(held, out, used);
     };
-    let NumberRead::Number { value: h, next } = script32::number_at(s, next) else {
+    let NumberRead::Number { value: h, next: _ } = last_number(s, next) else {
         return answers::bad(held, out, used);
     };
-    if !script::no_token(s, next) {
-        return answers::bad(held, out, used);
-    }
     let w = angles32::wrap(d, h);
     let refusal = w.refusal;
     Turn {
@@ -254,12 +341,9 @@ fn wrap(held: Filter, s: &[u8], at: usize, out: &mut [u8], used: usize) -> Turn 
 
 // root a
 fn root(held: Filter, s: &[u8], at: usize, out: &mut [u8], used: usize) -> Turn {
-    let NumberRead::Number { value, next } = script32::number_at(s, at) else {
+    let NumberRead::Number { value, next: _ } = last_number(s, at) else {
         return answers::bad(held, out, used);
     };
-    if !script::no_token(s, next) {
-        return answers::bad(held, out, used);
-    }
     let r = root32::square_root(value);
     let used = match r {
         Root::Value(v) => answers::value(floats::placeless(0), v, out, used),

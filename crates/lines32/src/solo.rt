@@ -22,14 +22,21 @@ fn read(filter: Filter, refusal: Verdict) -> Answer
     Answer { filter, refusal }
 }
 
-// openp, openc, readx, readp, readq, readpts: a buffer.
+// readx, readp, readq, readpts: a buffer.
+fn reading(name: Name, filter: Filter, buffer: &mut [f32]) -> Verdict {
+    match name {
+        Name::ReadX => filter.read_x(buffer),
+        Name::ReadP => filter.read_p(buffer),
+        Name::ReadQ => filter.read_q(buffer),
+        _ => filter.read_points(buffer),
+    }
+}
+
+// The same, or openp, openc.
 pub fn with_buffer(name: Name, filter: Filter, buffer: &mut [f32]) -> Answer {
     match name {
         Name::OpenPrediction => filter.open_prediction(buffer),
         Name::OpenCorrection => filter.open_correction(buffer),
-        Name::ReadX => read(filter, filter.read_x(buffer)),
-        Name::ReadP => read(filter, filter.read_p(buffer)),
-        Name::ReadQ => read(filter, filter.read_q(buffer)),
-        _ => read(filter, filter.read_points(buffer)),
+        _ => read(filter, reading(name, filter, buffer)),
     }
 }

@@ -1,4 +1,5 @@
 -- One step of a pair, as the code of a call takes it: the solo call on its side, or a change of the sheet on both. Assumes nothing.
+use Prim.Native.Nat.{ℕ}
 use mathlib.Core.Path.{_≡_, refl, ap, ap₂, _∙_}
 use mathlib.Core.Bool.{Bool, true, false, _&&_, cond}
 use mathlib.Core.List.{List, []}
@@ -42,12 +43,18 @@ module _ (f : Format) (p : Pair) where
   unfolding step pairStep
   own-reply w c h = rw h
 
-  -- what is made of its reply, and a buffer b that its numbers go to
+  -- what is made of its reply, and a buffer b that its numbers or its bytes go to
   pub own-told : {A : Type 0} (g : Reply → A) (w : Side) (c : Call) {s : Filter} {r : A} → onSheet c ≡ false → s ≡ solo p w → r ≡ g (step f s c .reply) → r ≡ g (pairStep f p w c .reply)
   own-told g w c h e d = d ∙ ap (λ (t : Filter). g (step f t c .reply)) e ∙ ap g (own-reply w c h)
 
+  own-lent : {A : Type 0} (g : Reply → List A) (w : Side) (c : Call) (b : List A) {s : Filter} {b' : List A} → onSheet c ≡ false → s ≡ solo p w → b' ≡ over (g (step f s c .reply)) b → b' ≡ over (g (pairStep f p w c .reply)) b
+  own-lent g w c b h e d = own-told (λ (r : Reply). over (g r) b) w c h e d
+
   pub own-given : (w : Side) (c : Call) (b : List Float) {s : Filter} {b' : List Float} → onSheet c ≡ false → s ≡ solo p w → b' ≡ over (step f s c .reply .given) b → b' ≡ over (pairStep f p w c .reply .given) b
-  own-given w c b h e d = own-told (λ (r : Reply). over (r .given) b) w c h e d
+  own-given = own-lent (λ (r : Reply). r .given)
+
+  pub own-bytes : (w : Side) (c : Call) (b : List ℕ) {s : Filter} {b' : List ℕ} → onSheet c ≡ false → s ≡ solo p w → b' ≡ over (step f s c .reply .bytes) b → b' ≡ over (pairStep f p w c .reply .bytes) b
+  own-bytes = own-lent (λ (r : Reply). r .bytes)
 
   -- ---- a change of the sheet
 

@@ -2,7 +2,7 @@
 ghost use mathlib.Core.Path.{_≡_};
 ghost use lib.Ieee.{binary64};
 ghost use Rattle.floats.specs.Fronts.{over};
-ghost use Rattle.filter.specs.Calls.{reading, read-x, read-p, read-q, read-points, read-params, read-stale};
+ghost use Rattle.filter.specs.Calls.{reading, read-x, read-p, read-q, read-points, read-params, read-stale, save};
 ghost use Rattle.filter.specs.Steps.{paramsRead, staleRead};
 ghost use Rattle.pairs.specs.Pairs.{pairStep};
 use crate::Pair;
@@ -57,5 +57,14 @@ impl Pair {
     {
         let f = sides::solo(self, side);
         f.read_stale()
+    }
+
+    // A side is saved as the filter that it is, with the sheet in the record: what is loaded from it has a sheet of its own.
+    pub fn save(self, side: Side, out: &mut [u8]) -> Verdict
+        ensures { λ r. ⌜ r ≡ pairStep binary64 self side (reading (save (now (out .entry)))) .reply .refusal ⌝ }
+        ensures { λ r. ⌜ now (out .exit) ≡ over (pairStep binary64 self side (reading (save (now (out .entry)))) .reply .bytes) (now (out .entry)) ⌝ }
+    {
+        let f = sides::solo(self, side);
+        records::save(f, out)
     }
 }

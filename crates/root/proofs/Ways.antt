@@ -7,7 +7,7 @@ use native.Mathlib.Omega.{arith}
 use borrow.Author.Tests.{le-ltb}
 use lib.Bits.{bitAnd, bitOr, and-mask, or-shifted, or-shifted-r}
 use lib.Count.{leadingZeros}
-use lib.Dec.{T, ltb, lit<, lit≤}
+use lib.Dec.{T, ltb, lit≤}
 use lib.Pow.{pow-pos, pow-mono}
 use lib.Ieee.{Float, Format, binary32, binary64, prec, hid, ones, top, fits, ofBits, toBits, ne, nanBits}
 use lib.Ieee.Bits.{ofBits-toBits, nanBits-above}

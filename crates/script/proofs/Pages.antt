@@ -19,7 +19,7 @@ use Rattle.script.specs.Page.{Page, page, putOf, wordText, putNumber, pu
 abbrev pub Shows : ℕ → List ℕ → Page → Type 0
 Shows n l p = (n ≡ p .used) × (l ≡ p .bytes)
 
-shows : {n : ℕ} {l : List ℕ} {p : Page} → page l n ≡ p → Shows n l p
+pub shows : {n : ℕ} {l : List ℕ} {p : Page} → page l n ≡ p → Shows n l p
 shows e = (ap (λ (q : Page). q .used) e, ap (λ (q : Page). q .bytes) e)
 
 pub no-room : (s l : List ℕ) (at : ℕ) → length l < at + length s → Shows at l (putOf s (page l at))
@@ -64,8 +64,8 @@ same-size s p = go (leb (p .used + length s) (length (p .bytes))) (leb-true _ _)
     go true f = length-paste (p .bytes) (p .used) s (length s) (f refl) (omega arith)
     go false f = refl
 
--- as many hex digits as a word has hold its number, and no fewer are asked for
-just : (w n k : ℕ) → Fewest 16 w n k → n < 16 ^ w → k ≡ w
+-- w hex digits hold a number below 16^w, and no fewer are asked for
+pub just : (w n k : ℕ) → Fewest 16 w n k → n < 16 ^ w → k ≡ w
 just w n k (least, holds, fewest) h = go (ltb w k) (ltb→lt w k) (nltb→le w k)
   where
     go : (t : Bool) → (T t → w < k) → (T (not t) → k ≤ w) → k ≡ w

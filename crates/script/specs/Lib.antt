@@ -1,4 +1,5 @@
 -- What the contracts of `script` cite.
+pub mod Hex
 pub mod Names
 pub mod Page
 pub mod Text

@@ -5,7 +5,7 @@ use mathlib.Core.List.{List, [], _∷_}
 use Rattle.script.specs.Text.{tokenOf, partOf, sameBytes}
 use Rattle.script.specs.declared.text.Token.{Token}
 use Rattle.script.specs.declared.names.Name.{Name}
-use Rattle.script.specs.declared.names.Name.the-variants.{New, SetX, SetP, SetQ, SetParams, SetKind, OpenPrediction, OpenCorrection, ClosePrediction, CloseCorrection, CloseCorrectionFlat, Abandon, OpenPredictionStepped, OpenCorrectionStepped, Ask, ImagePrediction, ImageCorrection, ClosePredictionStepped, CloseCorrectionStepped, CloseCorrectionFlatStepped, ReadX, ReadP, ReadQ, ReadPoints, ReadParams, ReadStale, Point, Wrap, Root, Dump, NewPair, First, Second, Narrow, Unknown}
+use Rattle.script.specs.declared.names.Name.the-variants.{New, SetX, SetP, SetQ, SetParams, SetKind, OpenPrediction, OpenCorrection, ClosePrediction, CloseCorrection, CloseCorrectionFlat, Abandon, OpenPredictionStepped, OpenCorrectionStepped, Ask, ImagePrediction, ImageCorrection, ClosePredictionStepped, CloseCorrectionStepped, CloseCorrectionFlatStepped, ReadX, ReadP, ReadQ, ReadPoints, ReadParams, ReadStale, Save, Point, Wrap, Root, Dump, NewPair, Load, First, Second, Narrow, Unknown}
 use Rattle.script.specs.declared.names.Call.{Call}
 
 -- a name, in bytes, and its call
@@ -26,6 +26,7 @@ others =
     record { word = 114 ∷ 111 ∷ 111 ∷ 116 ∷ []; call = Root } ∷  -- root
     record { word = 100 ∷ 117 ∷ 109 ∷ 112 ∷ []; call = Dump } ∷  -- dump
     record { word = 110 ∷ 101 ∷ 119 ∷ 112 ∷ 97 ∷ 105 ∷ 114 ∷ []; call = NewPair } ∷  -- newpair
+    record { word = 108 ∷ 111 ∷ 97 ∷ 100 ∷ []; call = Load } ∷  -- load
     record { word = 64 ∷ 49 ∷ []; call = First } ∷  -- @1
     record { word = 64 ∷ 50 ∷ []; call = Second } ∷  -- @2
     record { word = 64 ∷ 119 ∷ []; call = Narrow } ∷  -- @w
@@ -39,6 +40,7 @@ readings =
     record { word = 114 ∷ 101 ∷ 97 ∷ 100 ∷ 112 ∷ 116 ∷ 115 ∷ []; call = ReadPoints } ∷  -- readpts
     record { word = 114 ∷ 101 ∷ 97 ∷ 100 ∷ 112 ∷ 97 ∷ 114 ∷ []; call = ReadParams } ∷  -- readpar
     record { word = 114 ∷ 101 ∷ 97 ∷ 100 ∷ 115 ∷ 116 ∷ 97 ∷ 108 ∷ 101 ∷ []; call = ReadStale } ∷  -- readstale
+    record { word = 115 ∷ 97 ∷ 118 ∷ 101 ∷ []; call = Save } ∷  -- save
     others
 
 abbrev pub stepped : List Entry

@@ -1,11 +1,16 @@
-// The text of a script of calls, taken apart (bytes and tokens, sizes, numbers, lists and kinds, the call that a line names) and written (answers, put into lent bytes).
+// The text of a script of calls, taken apart (bytes and tokens, sizes, numbers, lists and kinds, records in hex, the call that a line names) and written (answers, put into lent bytes).
 pub mod counts;
+pub mod hex;
 pub mod names;
 pub mod numbers;
 pub mod text;
 pub mod write;
 
 pub use counts::times;
+pub use hex::BytesRead;
+pub use hex::bytes_at;
+pub use hex::marked_bytes;
+pub use hex::put_bytes;
 pub use names::Call;
 pub use names::Name;
 pub use names::call_at;

@@ -32,18 +32,20 @@ pub enum Name {
     ReadPoints,
     ReadParams,
     ReadStale,
+    Save,
     Point,
     Wrap,
     Root,
     Dump,
     NewPair,
+    Load,
     First,
     Second,
     Narrow,
     Unknown,
 }
 
-// The same among the last eight. `@1` and `@2` name no call but a side of the pair, and `@w` the f32 filter: the call on it follows.
+// The same among the last nine. `@1` and `@2` name no call but a side of the pair, and `@w` the f32 filter: the call on it follows.
 fn other_of(token: &[u8]) -> Name
     ensures { λ r. ⌜ r ≡ named others (now (token .entry)) ⌝ }
 {
@@ -62,6 +64,9 @@ fn other_of(token: &[u8]) -> Name
     if same_bytes(token, b"newpair") {
         return Name::NewPair;
     }
+    if same_bytes(token, b"load") {
+        return Name::Load;
+    }
     if same_bytes(token, b"@1") {
         return Name::First;
     }
@@ -74,7 +79,7 @@ fn other_of(token: &[u8]) -> Name
     Name::Unknown
 }
 
-// The same among the readings, and what is asked after them.
+// The same among the readings and save, and what is asked after them.
 fn reading_of(token: &[u8]) -> Name
     ensures { λ r. ⌜ r ≡ named readings (now (token .entry)) ⌝ }
 {
@@ -95,6 +100,9 @@ fn reading_of(token: &[u8]) -> Name
     }
     if same_bytes(token, b"readstale") {
         return Name::ReadStale;
+    }
+    if same_bytes(token, b"save") {
+        return Name::Save;
     }
     other_of(token)
 }

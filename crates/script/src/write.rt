@@ -27,7 +27,7 @@ pub fn put(out: &mut [u8], at: usize, s: &[u8]) -> usize
 }
 
 // a - b, or 0.
-fn less(a: usize, b: usize) -> usize
+pub fn less(a: usize, b: usize) -> usize
     ensures { λ r. ⌜ r ≡ a - b ⌝ }
 {
     if b < a {

@@ -206,7 +206,7 @@ module _ (f : Format) (s : Filter) where
 pub record Tested (s : Filter) (c : SteppedClose) (v : Verdict) : Type 0 where
   pub mine : Bool
   pub names : Bool
-  pub is : v ≡ refusal (inOrder (mine && not (due s)) names true false nothing true true nothing)
+  pub is : v ≡ refusal (inOrder (mine && not (due s)) names true true false false nothing true true nothing)
   pub mine-is : mine ≡ ownStepped c (s .track .stage)
   pub names-is : names ≡ every within (namedBy (s .track .kept) c)
 
@@ -216,7 +216,7 @@ module _ (f : Format) {s : Filter} {c : SteppedClose} {v : Verdict} (t : Tested 
 
   -- every image is in, and m is the first image's: it is the whole-list close
   pub ready : v .number ≡ 0 → answered (step f s (closing-stepped c)) ≡ unlessRefused s (answered (step f (atStage s (wholeStage (sortOf c))) (closing (withList c (s .track .kept .images)))))
-  ready z = let p = all-pass (t .mine && not (due s)) (t .names) true false nothing true true (sym (number-of (t .is)) ∙ z) in closes-whole f s c (sym fitting ∙ p .0) (sym (t .names-is) ∙ p .1)
+  ready z = let p = all-pass (t .mine && not (due s)) (t .names) true true false false nothing true true (sym (number-of (t .is)) ∙ z) in closes-whole f s c (sym fitting ∙ p .0) (sym (t .names-is) ∙ p .1)
 
   -- else it is refused, by 3 or 1
   pub unready : (v .number ≡ 0 → ⊥) → record { filter = s; refusal = v } ≡ answered (step f s (closing-stepped c))
@@ -226,8 +226,8 @@ module _ (f : Format) {s : Filter} {c : SteppedClose} {v : Verdict} (t : Tested 
       told : {r : Refusal} → v ≡ verdict r → outcome f (seen s) (closing-stepped c) ≡ refused r → record { filter = s; refusal = v } ≡ answered (step f s (closing-stepped c))
       told e d = ap (λ (x : Verdict). record { filter = s; refusal = x }) e ∙ sym (ap (λ (o : Outcome Done). answered (stepped s o)) d)
 
-      tests : {a b : Bool} → fits (closing-stepped c) s ≡ a → every within (namedBy (s .track .kept) c) ≡ b → v ≡ refusal (inOrder a b true false nothing true true nothing)
-      tests x y = t .is ∙ ap₂ (λ (a b : Bool). refusal (inOrder a b true false nothing true true nothing)) (fitting ∙ x) (t .names-is ∙ y)
+      tests : {a b : Bool} → fits (closing-stepped c) s ≡ a → every within (namedBy (s .track .kept) c) ≡ b → v ≡ refusal (inOrder a b true true false false nothing true true nothing)
+      tests x y = t .is ∙ ap₂ (λ (a b : Bool). refusal (inOrder a b true true false false nothing true true nothing)) (fitting ∙ x) (t .names-is ∙ y)
 
       unnamed : fits (closing-stepped c) s ≡ true → every within (namedBy (s .track .kept) c) ≡ false → every within (asks (seen s) (closing-stepped c) .sizes) ≡ false
       unnamed x y = ap (λ (u : Filter). every within (asks (seen u) (closing-stepped c) .sizes)) (own-stage s c x) ∙ sizes-are f s c ∙ rw y (and-false (inRange 1 8 (s .sheet .n)))

@@ -65,7 +65,7 @@ pub fn unless_refused(f: Filter, a: Answer) -> Answer
 
 // That its own call is open with every image in (3), and that its m is the first image's (1).
 pub fn unready(f: Filter, own: bool, named: bool) -> Verdict
-    ensures { λ r. ⌜ r ≡ refusal (inOrder (own && not (due f)) named true false nothing true true nothing) ⌝ }
+    ensures { λ r. ⌜ r ≡ refusal (inOrder (own && not (due f)) named true true false false nothing true true nothing) ⌝ }
 {
     let n = f.sheet.n;
     let kept = f.track.kept;

@@ -89,6 +89,8 @@ fn sizes() {
 fn stages() {
     row("3", "a setter, an open or a close at the wrong time", "closures: there is nothing to open".into());
     row("3", "a pair's sheet changed while either side has a call open", "no pairs: filters share nothing".into());
+    row("11", "a filter saved while its points are in use", "no records: nothing is written".into());
+    row("12", "bytes that are no record", "no records: nothing is read".into());
     row("4", "points read before any prediction", format!("points {:?}", c9().points()));
     let mut held = unmoved(c9());
     correct(&mut held, Average::Weighted, 3.0, 12.0, [2.0, 4.0, 0.0]);

@@ -7,20 +7,22 @@ use std::process::ExitCode;
 
 use oracle::coverage::{
     beside_partner, count, count_with, faulty_changes, has, in_stage, not_met, numbers, refused_with, searches, searching, sheet_changes,
-    staged, stages, waiting, with_kinds, with_rest, ALONE, CORRECTIONS, EVERYONE, ORDER, PIVOTS, PREDICTIONS, STEPS,
+    staged, stages, unsaved, waiting, with_kinds, with_rest, ALONE, CORRECTIONS, EVERYONE, ORDER, PIVOTS, PREDICTIONS, RECORDED, STEPS,
 };
 use oracle::float::Float;
 use oracle::pair::Side;
-use oracle::places::{self, AFTER_PARAM, AFTER_PLAIN, SECOND, SEVERAL, SPOTS};
+use oracle::places::{self, AFTER_PARAM, AFTER_PLAIN, PARAMS, SECOND, SEVERAL, SPOTS};
 use oracle::script::{named, On, Reader, Table, BAD, IN_USE, SETTERS, SHEET, STALE};
 use oracle::stages::OPENS;
 
-const NAMES: [(u8, &str); 16] = [
+const NAMES: [(u8, &str); 18] = [
     (0, "accepted"),
     (1, "SIZE"),
     (2, "SHORT"),
     (3, "STAGE"),
+    (12, "RECORD"),
     (4, "STALE"),
+    (11, "FRESH"),
     (51, "NUMBER state"),
     (52, "NUMBER covariance"),
     (53, "NUMBER noise"),
@@ -44,6 +46,8 @@ struct Figures {
     calls: u64,
     compared: u64,
     numbers: u64,
+    /// Of saved records.
+    bytes: u64,
     differences: u64,
 }
 
@@ -96,7 +100,10 @@ impl Figures {
                 continue;
             };
             self.compared += 1;
-            self.numbers += answer.split(' ').filter(|token| [f32::HEX, f64::HEX].contains(&token.len())).count() as u64;
+            match is_save(line).then(|| answer.split(' ').nth(2)).flatten() {
+                Some(length) => self.bytes += length.parse::<u64>().unwrap_or(0),
+                None => self.numbers += answer.split(' ').filter(|token| [f32::HEX, f64::HEX].contains(&token.len())).count() as u64,
+            }
             let other = theirs.next().unwrap_or(b"(no answer)");
             if other != answer.as_bytes() {
                 self.differ(&place(), &String::from_utf8_lossy(line), &answer, &String::from_utf8_lossy(other));
@@ -130,6 +137,7 @@ impl Figures {
         println!("  no call (bad)         {:>10}", count(&self.table, "bad", BAD));
         println!("answers compared        {:>10}", self.compared);
         println!("numbers compared        {:>10}", self.numbers);
+        println!("lent bytes compared     {:>10}", self.bytes);
         println!("differences             {:>10}", self.differences);
 
         println!("\n{:<13}{}", "call", NAMES.map(|(number, _)| format!("{number:>7}")).concat());
@@ -172,6 +180,7 @@ impl Figures {
             println!("@{call:<8}{}", counts.collect::<String>());
         }
         self.print_sizes();
+        self.print_records();
         let holes = not_met(&self.table, &self.places);
         println!("\nnot met           {}", if holes.is_empty() { "nothing".to_string() } else { holes.join("; ") });
     }
@@ -217,6 +226,25 @@ impl Figures {
         }
     }
 
+    /// Of records (A8): what was saved and what was read, of which sizes, what was wrong with it and what had to wait.
+    fn print_records(&self) {
+        let line = |name: String, cells: Vec<String>| println!("{name:<8}{}", cells.concat());
+        let cell = |call: &str, number: u8, word: &str| format!("   {word}: {}", count_with(&self.places, call, number, word));
+        println!();
+        let size = |n: usize| format!("   n={n}: {}", count_with(&self.table, "load", 0, &format!("n={n}")));
+        line("load 0".into(), (1..=8).map(size).collect());
+        for (on, (call, number, ..)) in
+            EVERYONE.iter().flat_map(|on| RECORDED.map(|row| (*on, row))).filter(|(on, (call, ..))| has(*on, call))
+        {
+            let name = named(on, call);
+            line(format!("{name} {number}"), waiting(call, number).iter().map(|word| cell(&name, number, word)).collect());
+        }
+        line("load 56".into(), [AFTER_PARAM, PARAMS].map(|word| cell("load", 56, word)).to_vec());
+        for stage in unsaved() {
+            println!("@save 3   {:<48}{:>8}", stage.name(), count_with(&self.places, "@save", 3, &stage.name()));
+        }
+    }
+
     /// What request A5's places were told among: the first bad number's place, what else was bad, and bad numbers past what an accepted call needs.
     fn print_places(&self) {
         let mut words: Vec<String> = SPOTS.iter().chain(&[SEVERAL, SECOND]).map(|word| word.to_string()).collect();
@@ -255,4 +283,10 @@ impl Figures {
             println!("{name:<10} {number}{}", counts.collect::<String>());
         }
     }
+}
+
+/// Whether the answer to this line, if it isn't `bad`, has lent bytes in it.
+fn is_save(line: &[u8]) -> bool {
+    let mut words = line.split(|b| b.is_ascii_whitespace()).filter(|word| !word.is_empty() && !word.starts_with(b"@"));
+    words.next() == Some(b"save")
 }

@@ -41,7 +41,7 @@ asked c =
           tested-early binary64 (asks s (call (start c))) nothing (c .early-refusal .ensures)
           (fit .both .ensures ∙ ap₂ (λ (x y : Bool). x && y) (fit .before .before .is-stepped .ensures) (fit .before .has-point .ensures))
           (c .before .is-sized .ensures ∙ sym (and-true _))
-          (λ h. sym (and-true _)) refl (λ h. none) refl (λ h. refl)
+          (λ h. sym (and-true _)) refl refl refl (λ h. none) refl (λ h. refl)
           ∙ ap (λ (b : Bool). firstRefusal binary64 (asking b (s .sheet .n) (calls.needs s (call (start c))))) (sym (fits-seen s (call (start c))));
     }
 

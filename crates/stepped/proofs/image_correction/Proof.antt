@@ -35,7 +35,7 @@ asked c =
           tested binary64 (asks (a .f) (call (start c))) _ (c .first-refusal .ensures) (c .before .first-bad .ensures)
           (fit .both .ensures ∙ ap₂ (λ (x y : Bool). x && y) (fit .before .before .is-correcting-stepped .ensures) (fit .before .is-ready .ensures))
           (size .both2 .ensures ∙ ap₂ (λ (x y : Bool). x && y) (size .before .before .is-sized .ensures) (size .before .is-measured .ensures))
-          (λ h. sym (and-true _)) refl (λ h. refl) refl (λ h. refl)
+          (λ h. sym (and-true _)) refl refl refl (λ h. refl) refl (λ h. refl)
           ∙ seen-so binary64 (a .f) (call (start c)) (observed-asks binary64 (a .f) (a .m) (now (a .image)));
     }
 

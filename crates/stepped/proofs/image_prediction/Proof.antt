@@ -35,7 +35,7 @@ asked c =
           tested binary64 (asks s (call (start c))) _ (c .first-refusal .ensures) (c .before .first-bad .ensures)
           (fit .both .ensures ∙ ap₂ (λ (x y : Bool). x && y) (fit .before .before .is-predicting-stepped .ensures) (fit .before .is-ready .ensures))
           (c .before .before .is-sized .ensures ∙ sym (and-true _))
-          (λ h. sym (and-true _)) refl (λ h. refl) refl (λ h. refl)
+          (λ h. sym (and-true _)) refl refl refl (λ h. refl) refl (λ h. refl)
           ∙ ap (λ (b : Bool). firstRefusal binary64 (asking b (s .sheet .n) (calls.needs s (call (start c))))) (sym (fits-seen s (call (start c))));
     }
 

@@ -3,6 +3,7 @@
 use oracle::coverage::{count, count_with, FAULTS};
 use oracle::filter::{list_length, Way};
 use oracle::kinds::Kind;
+use oracle::record::record_length;
 use oracle::script::{before, named, On, LINE, SHEET};
 use oracle::steps::{Average, Params};
 
@@ -301,7 +302,7 @@ impl Maker {
         }
         let numbers = self.random.vector(3, 1.0);
         let (whole, one) = (format!("setx {}", self.written(&numbers)), self.float(1.0));
-        let line: Vec<u8> = match self.random.below(33) {
+        let line: Vec<u8> = match self.random.below(36) {
             0 => whole[..whole.len() - 1].into(),
             1 => format!("{whole}0").into(),
             2 => format!("{whole} {one}").into(),
@@ -330,6 +331,7 @@ impl Maker {
             28 => b"imagec 1".to_vec(),
             29 => b"sclosep 0".to_vec(),
             30 => b"sclosec 1 0 0 p p p p 0".to_vec(),
+            31..=33 => self.bad_record(),
             // Taken all the same: tabs, blanks around, upper case, zeros in front, a comment behind.
             22 => whole.replace(' ', "\t ").into(),
             23 => format!("  {}  # {whole}", whole.to_uppercase().replace("SETX", "setx")).into(),
@@ -374,6 +376,8 @@ impl Maker {
                 "@w sclosep",
                 "@w sclosec 1 0 0 p p p p",
                 "@w sclosef 1 0 0",
+                "@w save 60",
+                "@w load -",
                 "@w newpair 0 0 0 0 0 0 00000000 00000000 00000000",
                 "@w new 0 0 0 0 0000000000000000 0000000000000000 0000000000000000",
                 "@w root 4010000000000000",
@@ -397,6 +401,8 @@ impl Maker {
                 "@2 root 4010000000000000",
                 "@1 wrap 4010000000000000 4010000000000000",
                 "@2 point 1 0 3 4010000000000000 4010000000000000 4010000000000000",
+                "@1 load -",
+                "@2 load 575001",
                 "@1 new 0 0 0 0 0000000000000000 0000000000000000 0000000000000000",
                 "@2 newpair 0 0 0 0 0 0 0000000000000000 0000000000000000 0000000000000000",
                 "newpair 0 0 0 0 0 0000000000000000 0000000000000000 0000000000000000",
@@ -410,7 +416,7 @@ impl Maker {
     /// A call by pure chance, with arguments in form.
     pub fn random_call(&mut self) -> Made<()> {
         let n = if self.random.chance(90) { self.n().max(1) } else { 1 + self.random.below(8) };
-        let line = match self.random.below(if self.on == On::Narrow { 16 } else { 21 }) {
+        let line = match self.random.below(if self.on == On::Narrow { 16 } else { 22 }) {
             0 => format!("setx {}", self.any_list(n)),
             1 => format!("setp {}", self.any_list(n * n)),
             2 => format!("setq {}", self.any_list(n * n)),
@@ -434,6 +440,7 @@ impl Maker {
             13 => "dump".into(),
             14 => return self.value(),
             15 => return self.reading(),
+            16 => format!("save {}", self.length(record_length(n))),
             // One step of what is open, or an open.
             _ => return self.any_step(n),
         };

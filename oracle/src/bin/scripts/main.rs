@@ -6,6 +6,7 @@ mod maker;
 mod numbers;
 mod overflows;
 mod pairs;
+mod records;
 mod rounds;
 mod searches;
 mod stepping;

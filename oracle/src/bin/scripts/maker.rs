@@ -24,20 +24,21 @@ pub enum End {
 
 pub type Made<A> = Result<A, End>;
 
-/// What an episode is about: refused calls, steps that stop, rounds as a user has them, stepped calls with all that doesn't fit on the way, anything.
+/// What an episode is about: refused calls, steps that stop, rounds as a user has them, stepped calls with all that doesn't fit on the way, records, anything.
 #[derive(Clone, Copy)]
 enum Sort {
     Refusals,
     Steps,
     Rounds,
     Stepping,
+    Records,
     Wild,
 }
 
 /// The sorts in turn.
-const CYCLE: [Sort; 13] = {
+const CYCLE: [Sort; 15] = {
     use Sort::*;
-    [Refusals, Rounds, Steps, Wild, Rounds, Stepping, Rounds, Steps, Wild, Rounds, Rounds, Steps, Rounds]
+    [Refusals, Rounds, Steps, Records, Wild, Rounds, Stepping, Rounds, Steps, Wild, Rounds, Records, Rounds, Steps, Rounds]
 };
 
 /// `bustle` in rounds as a user has them.
@@ -72,6 +73,7 @@ pub struct View {
     pub q: Vec<f64>,
     pub par: Params<f64>,
     pub kinds: Vec<Kind<f64>>,
+    pub stale: bool,
     pub open: Open,
     pub drawn_weights: [f64; 2],
     pub drawn_points: Vec<f64>,
@@ -92,6 +94,7 @@ impl View {
             q: wide(&filter.q),
             par: Params { alpha, beta, kappa },
             kinds: filter.kinds.iter().map(|kind| kind.half().map_or(Kind::Plain, |h| Kind::Turn(h.wide()))).collect(),
+            stale: filter.stale,
             open: filter.open,
             drawn_weights: filter.drawn_weights.map(T::wide),
             drawn_points: wide(&filter.drawn_points),
@@ -139,11 +142,11 @@ impl Maker {
             let (whose, needed) = self.needed();
             self.turn_to(EVERYONE[whose]);
             self.turn();
-            // Every size in turn and, thirteen being prime to eight, every sort of episode with each.
+            // Every size in turn and, fifteen being prime to eight, every sort of episode with each.
             let at = self.episodes[whose];
             self.episodes[whose] += 1;
             let n = 1 + (at % 8) as usize;
-            match needed.unwrap_or(CYCLE[(at % 13) as usize]) {
+            match needed.unwrap_or(CYCLE[(at % 15) as usize]) {
                 Sort::Refusals => self.refusals(n)?,
                 Sort::Steps => {
                     for _ in 0..self.random.between(1, 4) {
@@ -151,7 +154,8 @@ impl Maker {
                     }
                 }
                 Sort::Stepping if self.on != On::Narrow => self.stepping(n)?,
-                Sort::Rounds | Sort::Stepping => {
+                Sort::Records if self.on != On::Narrow => self.records(n)?,
+                Sort::Rounds | Sort::Stepping | Sort::Records => {
                     // A flat close is refused for a turn, so that there are few as long as something wasn't met.
                     let (n, turns) = (self.rare_size(n), self.random.chance(if self.all_met { 35 } else { 12 }));
                     self.episode(n, turns)?
@@ -172,6 +176,7 @@ impl Maker {
                     (Sort::Steps, &holes.steps),
                     (Sort::Rounds, &holes.rounds),
                     (Sort::Stepping, &holes.stepping),
+                    (Sort::Records, &holes.records),
                 ];
                 sorts.map(|(sort, unmet)| vec![(whose, Some(sort)); unmet.len()])
             });
@@ -199,6 +204,11 @@ impl Maker {
     /// How often this close of a correction was accepted with these sizes.
     pub fn accepted_with(&self, call: &str, n: usize, m: usize) -> u64 {
         count_with(&self.reader.table, call, 0, &format!("n={n} m={m}"))
+    }
+
+    /// How often a record of this size was read.
+    pub fn loaded_with(&self, n: usize) -> u64 {
+        count_with(&self.reader.table, "load", 0, &format!("n={n}"))
     }
 
     /// From here on calls are made on this one, with numbers of its width.
@@ -255,6 +265,10 @@ impl Maker {
                 self.open_correction()?;
             }
             6 => self.random_call()?,
+            _ if self.on == On::Solo && self.random.chance(20) => {
+                let n = 1 + self.random.below(8);
+                self.any_load(n, 1.0)?;
+            }
             _ => {
                 self.say("dump")?;
             }

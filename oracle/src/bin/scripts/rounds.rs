@@ -2,7 +2,7 @@
 
 use oracle::filter::{list_length, Open};
 use oracle::kinds::Kind;
-use oracle::script::SETTERS;
+use oracle::script::{On, SETTERS};
 use oracle::steps::Average;
 
 use crate::maker::{Fault, Made, Maker};
@@ -18,7 +18,7 @@ impl Maker {
                 self.end(unit)?;
                 continue;
             }
-            match self.random.below(if self.paired() { 26 } else { 20 }) {
+            match self.random.below(if self.paired() { 27 } else { 21 }) {
                 0..=5 => self.prediction(unit)?,
                 6 => {
                     // Tuned between a prediction and a fix.
@@ -47,6 +47,8 @@ impl Maker {
                         self.say("dump")?;
                     }
                 }
+                20 if self.on != On::Narrow => self.on_file(unit)?,
+                20 => self.reading()?,
                 _ => self.tuned_pair(unit)?,
             }
         }
@@ -62,8 +64,11 @@ impl Maker {
         power(self.random.between(low, high))
     }
 
-    /// A new filter or pair, at times with turns among its kinds.
+    /// A new filter or pair, at times with turns among its kinds; at times a filter is read from a record.
     pub fn fresh(&mut self, n: usize, unit: f64, turns: bool) -> Made<()> {
+        if self.on == On::Solo && self.random.chance(15) {
+            return self.fresh_by_record(n, unit, turns);
+        }
         let lists = [self.random.vector(n, unit), self.random.covariance(n, unit), self.random.noise(n, unit)];
         let par = self.random.params(n);
         if self.new_line(n, unit, lists, par)? == 0 && turns {
@@ -392,9 +397,10 @@ impl Maker {
         self.marks()
     }
 
-    /// A reading with a buffer that fits, is short, or is longer.
+    /// A reading with a buffer that fits, is short, or is longer; or a save that is as good as one.
     pub fn reading(&mut self) -> Made<()> {
-        let name = self.rare_call(&["readx", "readp", "readq", "readpts", "readpar", "readstale"], &[0, 1]);
+        let calls = ["readx", "readp", "readq", "readpts", "readpar", "readstale", "save"];
+        let name = self.rare_call(if self.is_savable() { &calls } else { &calls[..6] }, &[0, 1]);
         let short = self.random.chance(25);
         self.read(name, short)
     }
@@ -405,6 +411,7 @@ impl Maker {
             "readx" => n,
             "readp" | "readq" => n * n,
             "readpts" => list_length(n),
+            "save" => return self.save(short).map(|_| ()),
             _ => return self.say(name).map(|_| ()),
         };
         let length = if short { self.short_length(needed) } else { self.length(needed) };

@@ -80,6 +80,7 @@ impl Maker {
             if self.stage_lacks() {
                 self.misfits()?;
             }
+            self.unsaved()?;
         }
         if !self.random.chance(self.bustle) {
             return Ok(());
@@ -102,6 +103,14 @@ impl Maker {
         !self.paired() && staged(on).any(|call| !stage.fits(call) && in_stage(&self.reader.table, on, call, stage) == Some(0))
     }
 
+    /// On a side a save, if none was made in this stage yet, and else now and then.
+    fn unsaved(&mut self) -> Made<()> {
+        if self.paired() && (self.has_shown("save", 3, &self.filter().stage.name()) == 0 || self.random.chance(4)) {
+            self.save(false)?;
+        }
+        Ok(())
+    }
+
     /// What doesn't fit, and more of it as long as something of that is lacking.
     fn misfits(&mut self) -> Made<()> {
         self.misfit()?;
@@ -121,6 +130,7 @@ impl Maker {
         }
         let waits = match call {
             "closec" | "closef" => self.random.pick(&[None, None, Some(1), Some(2), Some(53), Some(54), Some(55)]),
+            "save" => self.random.pick(&[None, Some(2)]),
             _ => self.waiting_fault(call, 3),
         };
         self.faulty_call(call, waits.as_slice())
@@ -171,6 +181,7 @@ impl Maker {
         let m = if self.filter().m > 0 { self.filter().m } else { self.random.pick(&[1, 2, 3, 3, 4, 4]) };
         let line = match call {
             "openp" | "openc" => format!("{call} {}", self.random.pick(&[0, 3, 136])),
+            "save" => return self.save(has(2)).map(|_| ()),
             "ask" => format!("ask {}", if has(2) { self.short_length(n) } else { self.length(n) }),
             "imagep" => format!("imagep {}", self.faulty_image(call, n, faults)),
             "imagec" if has(1) => {
@@ -278,6 +289,7 @@ impl Maker {
                 continue;
             }
             self.misfits()?;
+            self.unsaved()?;
             match (self.filter().open, self.random.below(3)) {
                 (_, 0) => self.given_up()?,
                 (Open::Correction(Way::Stepped), 1) => {

@@ -39,7 +39,7 @@ asked c =
     let a = start c .args in record {
       told = _;
       is =
-          tested-early binary64 _ _ (told-in-order (lent c)) (c .before .before .before .before .is-correcting .ensures) refl (λ h. refl) refl
+          tested-early binary64 _ _ (told-in-order (lent c)) (c .before .before .before .before .is-correcting .ensures) refl (λ h. refl) refl refl refl
           (λ h. ap (λ (v : List Float). searched (inputsMeasured (a .self .sheet .n) (a .m) (now (a .z)) (now (a .r)) (now (a .observed)) v)) (ap (take (a .m)) (c .before .before .before .halves .ensures) ∙ halves-take (a .m) (a .kinds)))
           refl
           (λ h. c .before .before .kinds-pass .ensures ∙ all-pass binary64 (take (a .m) (a .kinds)));

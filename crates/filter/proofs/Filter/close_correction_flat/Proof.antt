@@ -32,7 +32,7 @@ abbrev lent : (c : tie.After-take-in) → Lent (lending c) (c .take-in .result)
 lent c = record { is = c .take-in .ensures }
 
 abbrev asked : (c : tie.After-take-in) → Told binary64 (start c .args .self) (call (start c))
-asked c = record { told = _; is = tested-early binary64 _ _ (told-in-order (lent c)) (c .before .before .before .before .is-correcting .ensures) refl (λ h. refl) refl (λ h. refl) (c .before .before .all-plain .ensures) (λ h. refl) }
+asked c = record { told = _; is = tested-early binary64 _ _ (told-in-order (lent c)) (c .before .before .before .before .is-correcting .ensures) refl (λ h. refl) refl refl refl (λ h. refl) (c .before .before .all-plain .ensures) (λ h. refl) }
 
 -- where the call went on past its tests
 abbrev went : tie.After-correct-nonlinear → tie.Else1

@@ -44,7 +44,7 @@ asked c =
       is =
           tested-early binary64 _ nothing (c .early-refusal .ensures) (c .before .before .before .is-shut .ensures) (c .before .before .is-sized .ensures ∙ sym (and-true _))
           (λ h. ap (λ (j : ℕ). leb j (length (now (a .out)))) (c .before .point-numbers .ensures ∙ within-both _ _ _ (states-le _ [] h) (states-le _ [] h)) ∙ sym (and-true _))
-          refl (λ h. none) refl (λ h. refl)
+          refl refl refl (λ h. none) refl (λ h. refl)
           ∙ ap (firstRefusal binary64) (opening-asks (a .self) (a .stage) (now (a .out)));
     }
 

@@ -13,7 +13,7 @@ use Rattle.filter.proofs.Filter.read_stale.Statement.{statement}
 use Rattle.filter.proofs.Filter.read_stale.Tie as tie
 
 abbrev asked : (c : tie.After-early-refusal) → Told binary64 (c .before .before .args .self) (reading read-stale)
-asked c = record { told = _; is = tested-early binary64 _ nothing (c .early-refusal .ensures) refl (c .before .is-sized .ensures ∙ sym (and-true _)) (λ h. refl) refl (λ h. none) refl (λ h. refl) }
+asked c = record { told = _; is = tested-early binary64 _ nothing (c .early-refusal .ensures) refl (c .before .is-sized .ensures ∙ sym (and-true _)) (λ h. refl) refl refl refl (λ h. none) refl (λ h. refl) }
 
 returns : tie.Need-returns
 returns c = ap (λ (t : Stepped). staleRead (t .reply)) (sym (refused-before (asked (c .before .before)) (c .if1 .taken)))

@@ -54,7 +54,7 @@ asked c =
       is =
           tested binary64 _ _ (c .first-refusal .ensures) found refl (d .before .before .is-sized .ensures ∙ sym (and-true _))
           (λ h. ap (λ (j : ℕ). leb j (length (now (a .q)))) (squared c (states-le _ [] h)) ∙ sym (and-true _))
-          refl
+          refl refl refl
           (λ h. ap (λ (j : ℕ). searched (input Noise (take j (now (a .q))) ++ input Lone (valuesOf (a .params)))) (squared c (states-le _ [] h)))
           refl
           (λ h. c .before .params-pass .ensures ∙ passing-8 _ _ (states-le _ [] h));

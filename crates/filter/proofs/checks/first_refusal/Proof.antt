@@ -13,14 +13,14 @@ returns : tie.Need-returns
 returns c = let e = c .before .before .early-refusal .ensures in e ∙ sym (earlier-first _ _ (λ z. c .if1 .taken (number-of e ∙ z)))
 
 -- nothing was refused before the search
-none-before : (c : tie.Else1) → let a = c .before .before .before .args in refusal (inOrder (a .fits) (a .sized) (a .long) (a .stale) nothing true true nothing) .number ≡ 0
+none-before : (c : tie.Else1) → let a = c .before .before .before .args in refusal (inOrder (a .fits) (a .sized) (a .long) true (a .stale) false nothing true true nothing) .number ≡ 0
 none-before c = sym (number-of (c .before .before .early-refusal .ensures)) ∙ c .if1 .left
 
 returns-2 : tie.Need-returns-2
 returns-2 c = sym (earlier-second _ _ (none-before (c .before .before)) ∙ earlier-first _ _ (c .if2 .taken))
 
 -- and nothing in it
-past : (c : tie.Else2) → let a = c .before .before .before .before .before .args in earlier (refusal (inOrder (a .fits) (a .sized) (a .long) (a .stale) nothing true true nothing)) (earlier (a .found) (refusal (inOrder true true true false nothing (a .plain) (a .passing) nothing))) ≡ refusal (inOrder true true true false nothing (a .plain) (a .passing) nothing)
+past : (c : tie.Else2) → let a = c .before .before .before .before .before .args in earlier (refusal (inOrder (a .fits) (a .sized) (a .long) true (a .stale) false nothing true true nothing)) (earlier (a .found) (refusal (inOrder true true true true false false nothing (a .plain) (a .passing) nothing))) ≡ refusal (inOrder true true true true false false nothing (a .plain) (a .passing) nothing)
 past c = earlier-second _ _ (none-before (c .before .before)) ∙ earlier-second _ _ (c .if2 .left)
 
 returns-3 : tie.Need-returns-3

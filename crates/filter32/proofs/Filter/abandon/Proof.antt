@@ -14,7 +14,7 @@ use Rattle.filter32.proofs.Filter.abandon.Statement.{statement}
 use Rattle.filter32.proofs.Filter.abandon.Tie as tie
 
 abbrev asked : (c : tie.After-early-refusal) → Told binary32 (wideFilter (c .before .before .before .before .before .args .self)) abandon
-asked c = record { told = _; is = tested-early binary32 _ nothing (c .early-refusal .ensures) (ap not (c .before .before .is-shut .ensures)) (c .before .is-sized .ensures ∙ sym (and-true _)) (λ h. refl) refl (λ h. none) refl (λ h. refl) }
+asked c = record { told = _; is = tested-early binary32 _ nothing (c .early-refusal .ensures) (ap not (c .before .before .is-shut .ensures)) (c .before .is-sized .ensures ∙ sym (and-true _)) (λ h. refl) refl refl refl (λ h. none) refl (λ h. refl) }
 
 pub abandon-spec : {M : Type 1} → statement M
 abandon-spec =

@@ -15,7 +15,7 @@ use Rattle.filter32.proofs.Filter.read_params.Statement.{statement}
 use Rattle.filter32.proofs.Filter.read_params.Tie as tie
 
 abbrev asked : (c : tie.After-early-refusal) → Told binary32 (wideFilter (c .before .before .args .self)) (reading read-params)
-asked c = record { told = _; is = tested-early binary32 _ nothing (c .early-refusal .ensures) refl (c .before .is-sized .ensures ∙ sym (and-true _)) (λ h. refl) refl (λ h. none) refl (λ h. refl) }
+asked c = record { told = _; is = tested-early binary32 _ nothing (c .early-refusal .ensures) refl (c .before .is-sized .ensures ∙ sym (and-true _)) (λ h. refl) refl refl refl (λ h. none) refl (λ h. refl) }
 
 returns : tie.Need-returns
 unfolding ofBits

@@ -33,7 +33,7 @@ asked c =
           tested binary32 _ _ (c .first-refusal .ensures) (c .before .before .first-bad .ensures ∙ ap (λ (x : Float). refusal (searched (input Lone (x ∷ [])))) (c .before .before .before .before .half-of .ensures))
           (s .before .is-shut .ensures)
           (c .before .before .before .before .before .both .ensures ∙ ap (λ (b : Bool). b && ltb (a .i) (a .self .sheet .n)) (s .is-sized .ensures) ∙ state-in (a .i) (a .self .sheet .n))
-          (λ h. refl) refl (λ h. refl) refl
+          (λ h. refl) refl refl refl (λ h. refl) refl
           (λ h. c .before .kind-passes .ensures ∙ sym (and-true _));
     }
 

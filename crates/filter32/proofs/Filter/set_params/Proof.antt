@@ -27,7 +27,7 @@ asked c =
       told = _;
       is =
           tested binary32 _ _ (c .first-refusal .ensures) (c .before .before .first-bad .ensures ∙ ap (λ (v : List Float). refusal (searched (input Lone (take 3 v)))) (c .before .before .before .before .values .ensures))
-          (s .before .is-shut .ensures) (s .is-sized .ensures ∙ sym (and-true _)) (λ h. refl) refl (λ h. refl) refl
+          (s .before .is-shut .ensures) (s .is-sized .ensures ∙ sym (and-true _)) (λ h. refl) refl refl refl (λ h. refl) refl
           (λ h. c .before .params-pass .ensures ∙ passing-8 _ _ (states-le _ [] h));
     }
 

@@ -51,7 +51,7 @@ asked c =
       is =
           tested binary32 _ _ (c .first-refusal .ensures) (found-next in-state Covariance _ (c .before .next-bad .ensures) .is) refl (c .before .before .before .before .is-sized .ensures ∙ sym (and-true _))
           (λ h. c .before .before .before .both .ensures ∙ ap (λ (j : ℕ). leb (a .n) (length (now (a .x))) && leb j (length (now (a .p)))) (squared c (states-le _ [] h)) ∙ ap (λ (t : Bool). leb (a .n) (length (now (a .x))) && t) (sym (and-true _)))
-          refl
+          refl refl refl
           (λ h. ap (λ (j : ℕ). searched (input State (take (a .n) (now (a .x))) ++ input Covariance (take j (now (a .p))))) (squared c (states-le _ [] h)))
           refl (λ h. refl);
     }

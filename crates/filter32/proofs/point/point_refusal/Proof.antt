@@ -24,7 +24,7 @@ returns c =
     tested-early binary32 (pointAsks binary32 (now (a .list)) (a .n) (a .k)) nothing (c .early-refusal .ensures) refl
     (b .both .ensures ∙ ap₂ (λ (x : Bool) (l : ℕ). x && leb (a .k) l) (b .before .before .is-sized .ensures) (b .before .last-point .ensures) ∙ point-in (a .k) (a .n))
     (λ h. ap (λ (j : ℕ). leb j (length (now (a .list)))) (c .before .point-numbers .ensures ∙ within-both _ _ _ (states-le _ (sized (a .k) 0 (a .n + a .n)) h) (states-le _ (sized (a .k) 0 (a .n + a .n)) h)) ∙ sym (and-true _))
-    refl (λ h. none) refl (λ h. refl)
+    refl refl refl (λ h. none) refl (λ h. refl)
     ∙ first binary32 (now (a .list)) (a .n) (a .k)
 
 pub point-refusal-spec : {M : Type 1} → statement M

@@ -23,7 +23,7 @@ abbrev asks : tie.Start → Asks
 asks s = line true (s .args .n) [] (lend (now (s .args .out)) (s .args .k)) (s .args .stale) [] []
 
 abbrev asked : (c : tie.After-early-refusal) → Gives binary32 (asks (c .before .before .before .before))
-asked c = record { told = _; is = tested-early binary32 _ nothing (c .early-refusal .ensures) refl (c .before .is-sized .ensures ∙ sym (and-true _)) (λ h. sym (and-true _)) refl (λ h. none) refl (λ h. refl) }
+asked c = record { told = _; is = tested-early binary32 _ nothing (c .early-refusal .ensures) refl (c .before .is-sized .ensures ∙ sym (and-true _)) (λ h. sym (and-true _)) refl refl refl (λ h. none) refl (λ h. refl) }
 
 -- what the buffer is to hold, by the outcome
 abbrev held : tie.Start → Outcome (List Float) → List Float

@@ -8,7 +8,7 @@ use Rattle.filter32.proofs.tests.slice_refusal.Statement.{statement}
 use Rattle.filter32.proofs.tests.slice_refusal.Tie as tie
 
 returns : tie.Need-returns
-returns c = tested binary32 _ _ (c .first-refusal .ensures) (c .before .first-bad .ensures) refl (c .before .before .is-sized .ensures ∙ sym (and-true _)) (λ s. sym (and-true _)) refl (λ s. refl) refl (λ s. refl)
+returns c = tested binary32 _ _ (c .first-refusal .ensures) (c .before .first-bad .ensures) refl (c .before .before .is-sized .ensures ∙ sym (and-true _)) (λ s. sym (and-true _)) refl refl refl (λ s. refl) refl (λ s. refl)
 
 pub slice-refusal-spec : {M : Type 1} → statement M
 slice-refusal-spec = tie.close (tie.spec (λ c κs. search needs) (λ c κs. search needs) (λ c κs. search needs) returns)

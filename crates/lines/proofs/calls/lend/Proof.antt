@@ -7,7 +7,7 @@ use Rattle.lines.proofs.calls.lend.Statement.{statement}
 use Rattle.lines.proofs.calls.lend.Tie as tie
 
 slice-aggregate-with-buffer : tie.Need-slice-aggregate-with-buffer
-slice-aggregate-with-buffer c = sym (length-take-le _ _ (omega (arith, c .before .marked .ensures .0, c .before .before .before .before .if1 .left)))
+slice-aggregate-with-buffer c = sym (length-take-le _ _ (omega (arith, c .before .marked .ensures .0, c .before .before .if1 .left)))
 
 pub lend-spec : {M : Type 1} → statement M
 lend-spec =
@@ -19,10 +19,6 @@ lend-spec =
     (λ c κs. search needs)
     (λ c. search needs)
     (λ c. search needs)
-    (λ c κs. search needs)
-    (λ c. search needs)
-    (λ c. search needs)
-    (λ c κs. search needs)
     (λ c κs. search needs)
     (λ c. search needs)
     (λ c. search needs)

@@ -1,4 +1,4 @@
--- `script::names::other_of` meets its contract: the last eight names in turn. Assumes nothing.
+-- `script::names::other_of` meets its contract: the last nine names in turn. Assumes nothing.
 use mathlib.Core.Path.{refl}
 use borrow.Author.Needs.{needs}
 use denote.Ref.{now}
@@ -32,9 +32,12 @@ past7 c = missed (past6 (c .before .before .before)) (c .before .same-bytes7 .en
 past8 : (c : tie.Else8) → Tried others (drop 8 others) (now (c .before .before .before .before .before .before .before .before .before .before .before .before .before .before .before .before .before .before .before .before .before .before .before .before .before .args .token))
 past8 c = missed (past7 (c .before .before .before)) (c .before .same-bytes8 .ensures) (c .if8 .left)
 
-returns-9 : tie.Need-returns-9
+past9 : (c : tie.Else9) → Tried others (drop 9 others) (now (c .before .before .before .before .before .before .before .before .before .before .before .before .before .before .before .before .before .before .before .before .before .before .before .before .before .before .before .before .args .token))
+past9 c = missed (past8 (c .before .before .before)) (c .before .same-bytes9 .ensures) (c .if9 .left)
+
+returns-10 : tie.Need-returns-10
 unfolding named
-returns-9 c = last (past8 c) refl
+returns-10 c = last (past9 c) refl
 
 pub other-of-spec : {M : Type 1} → statement M
 other-of-spec =
@@ -64,4 +67,7 @@ other-of-spec =
     (λ c. search needs)
     (λ c κs. search needs)
     (λ c. hit (past7 (c .before .before .before)) (c .before .same-bytes8 .ensures) (c .if8 .taken))
-    returns-9)
+    (λ c. search needs)
+    (λ c κs. search needs)
+    (λ c. hit (past8 (c .before .before .before)) (c .before .same-bytes9 .ensures) (c .if9 .taken))
+    returns-10)

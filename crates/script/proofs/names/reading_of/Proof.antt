@@ -1,4 +1,4 @@
--- `script::names::reading_of` meets its contract: six names in turn, then the rest of the table. Assumes nothing.
+-- `script::names::reading_of` meets its contract: seven names in turn, then the rest of the table. Assumes nothing.
 use borrow.Author.Needs.{needs}
 use denote.Ref.{now}
 use lib.ListN.{drop}
@@ -25,6 +25,9 @@ past5 c = missed (past4 (c .before .before .before)) (c .before .same-bytes5 .en
 past6 : (c : tie.Else6) → Tried readings (drop 6 readings) (now (c .before .before .before .before .before .before .before .before .before .before .before .before .before .before .before .before .before .before .before .args .token))
 past6 c = missed (past5 (c .before .before .before)) (c .before .same-bytes6 .ensures) (c .if6 .left)
 
+past7 : (c : tie.Else7) → Tried readings (drop 7 readings) (now (c .before .before .before .before .before .before .before .before .before .before .before .before .before .before .before .before .before .before .before .before .before .before .args .token))
+past7 c = missed (past6 (c .before .before .before)) (c .before .same-bytes7 .ensures) (c .if7 .left)
+
 pub reading-of-spec : {M : Type 1} → statement M
 reading-of-spec =
     tie.close
@@ -47,5 +50,8 @@ reading-of-spec =
     (λ c. search needs)
     (λ c κs. search needs)
     (λ c. hit (past5 (c .before .before .before)) (c .before .same-bytes6 .ensures) (c .if6 .taken))
+    (λ c. search needs)
     (λ c κs. search needs)
-    (λ c. last (past6 (c .before)) (c .other-of .ensures)))
+    (λ c. hit (past6 (c .before .before .before)) (c .before .same-bytes7 .ensures) (c .if7 .taken))
+    (λ c κs. search needs)
+    (λ c. last (past7 (c .before)) (c .other-of .ensures)))

@@ -2,19 +2,20 @@
 use Prim.Native.Nat.{_-_}
 use mathlib.Core.Path.{refl}
 use native.Mathlib.Omega.{arith}
-use lib.Ieee.{binary32}
-use Rattle.script.proofs.Marks.{Marked, marked-none, marked-more}
+use lib.Ieee.{nan, binary32}
+use Rattle.script.specs.Numbers.{markOf}
+use Rattle.script.proofs.Marks.{Marked, marked-none, marked-more, mark-of}
 use Rattle.script32.proofs.numbers.marked.Statement.{statement}
 use Rattle.script32.proofs.numbers.marked.Tie as tie
 
 abbrev Inv-loop : tie.InvT-loop
-Inv-loop buffer₀ i₀ buffer i = Marked binary32 buffer i
+Inv-loop buffer₀ i₀ buffer i = Marked nan (markOf binary32) 512 buffer i
 
 abbrev μ-loop : tie.MeasureT-loop
 μ-loop buffer₀ i₀ buffer i = 512 - i
 
 loop-again : tie.Need-loop-again Inv-loop μ-loop
-loop-again c = marked-more (c .before .before .loop .inv) (c .before .loop-test .taken) (c .float-of .ensures)
+loop-again c = marked-more (c .before .before .loop .inv) (c .before .loop-test .taken) (mark-of binary32 _ (c .float-of .ensures))
 
 returns : tie.Need-returns Inv-loop μ-loop
 returns c = let r = c .before .loop .inv in (r .size, λ i h. r .holds i (omega arith))

@@ -10,7 +10,7 @@ use Rattle.stepped.proofs.whole.unready.Tie as tie
 returns : tie.Need-returns
 returns c =
     let a = c .before .before .before .before .args in
-    c .early-refusal .ensures ∙ ap (λ (x : Bool). refusal (inOrder x (a .named) true false nothing true true nothing)) (c .before .both .ensures ∙ ap (λ (x : Bool). a .own && not x) (c .before .before .has-point .ensures))
+    c .early-refusal .ensures ∙ ap (λ (x : Bool). refusal (inOrder x (a .named) true true false false nothing true true nothing)) (c .before .both .ensures ∙ ap (λ (x : Bool). a .own && not x) (c .before .before .has-point .ensures))
 
 pub unready-spec : {M : Type 1} → statement M
 unready-spec = tie.close (tie.spec (λ c κs. search needs) (λ c κs. search needs) (λ c κs. search needs) returns)

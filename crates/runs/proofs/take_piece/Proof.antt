@@ -1,12 +1,12 @@
--- `replay::take_piece` is safe and ends: a line ends in the piece and no earlier than it starts, and calls keep the lengths of what they are lent. Assumes nothing.
+-- `runs::take_piece` is safe and ends: a line ends in the piece and no earlier than it starts, and calls keep the lengths of what they are lent. Assumes nothing.
 use Prim.Native.Nat.{_-_}
 use mathlib.Core.Path.{_≡_, refl}
 use native.Mathlib.Omega.{arith}
 use lib.ListN.{length}
 use Rattle.script.proofs.Runs.{run-in}
 use Rattle.script.specs.declared.text.Class.the-variants.{Line}
-use Rattle.replay.proofs.take_piece.Statement.{statement}
-use Rattle.replay.proofs.take_piece.Tie as tie
+use Rattle.runs.proofs.take_piece.Statement.{statement}
+use Rattle.runs.proofs.take_piece.Tie as tie
 
 abbrev Inv-loop : tie.InvT-loop
 Inv-loop piece line₀ out₀ next₀ at₀ line out next at = (length line ≡ length line₀) × (length out ≡ length out₀)
