@@ -1,4 +1,4 @@
-# For oracle/roots, roots32, f32only and sizes: what is proved, built into a library that another language can link. Wants rt on the path.
+# For oracle/roots, roots32, f32only, sizes and records: what is proved, built into a library that another language can link. Wants rt on the path.
 # On x86-64 that is the kit's own library; elsewhere the library's LLVM module is compiled by the kit's clang for the processor at hand, so that times say something there too.
 guide=$(rt doc)
 kit=$(cd "${RATTLE_HOME:-$(dirname "$guide")/..}" && pwd)
