@@ -6,7 +6,7 @@ use lib.Dec.{leb, eqb}
 use lib.ListN.{length, take, drop, getD, replicate}
 use lib.Ieee.{Float, Format}
 use Rattle.floats.specs.declared.Slice.the-variants.{Lone}
-use Rattle.floats.specs.Refusal.{SHORT, Outcome, accepted, refusal, or, unless}
+use Rattle.floats.specs.Refusal.{SHORT, Outcome, accepted, unless}
 use Rattle.floats.specs.Search.{Input, input}
 use Rattle.floats.specs.Numbers.{zeros}
 use Rattle.floats.specs.Fronts.{over}
@@ -20,7 +20,7 @@ use Rattle.filter.specs.Filters.{sheet, filter}
 use Rattle.filter.specs.Records.{numbers, recordLength}
 use Rattle.filter.specs.Calls.{lendBytes, asKinds}
 use Rattle.filter.specs.Steps.{paramsOf}
-use Rattle.filter.specs.New.{freshTrack, empty, from, inputsFor}
+use Rattle.filter.specs.New.{freshTrack, answerOf, from, inputsFor}
 
 -- n states with the numbers v, which are x, P, Q, alpha, beta and kappa, and these kinds, the others plain; else as New leaves a filter
 abbrev pub filterOf : ℕ → List Float → List Kind → Filter
@@ -79,4 +79,4 @@ module _ (b : List ℕ) where
   loadOf f = unless (leb 3 (length b)) SHORT (guarded f loadAsks (accepted filterIn))
 
   abbrev pub loadAnswer : Format → Answer
-  loadAnswer f = record { filter = or empty (loadOf f); refusal = refusal (loadOf f) }
+  loadAnswer f = answerOf (loadOf f)

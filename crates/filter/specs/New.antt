@@ -42,6 +42,13 @@ emptyTrack = freshTrack (zeros 8) (zeros 64)
 abbrev pub empty : Filter
 empty = filter emptySheet emptyTrack
 
+-- a filter with number and place; refused, the empty one
+abbrev pub refusedAnswer : Verdict → Answer
+refusedAnswer v = record { filter = empty; refusal = v }
+
+abbrev pub answerOf : Outcome Filter → Answer
+answerOf o = record { filter = or empty o; refusal = refusal o }
+
 -- ---- what is asked
 
 -- what a track starts from, as lent: a state and its covariance
@@ -102,7 +109,7 @@ module _ (f : Format) (n : ℕ) where
   newOf x p q params = guarded f (newAsks n (from x p ∷ []) q params) (accepted (filter (sheetFrom n q params) (trackFrom n (from x p))))
 
   abbrev pub newAnswer : List Float → List Float → List Float → Params → Answer
-  newAnswer x p q params = record { filter = or empty (newOf x p q params); refusal = refusal (newOf x p q params) }
+  newAnswer x p q params = answerOf (newOf x p q params)
 
 -- what a New says of two of its parts, which have one n, the sheet being the last of them: a slice of the later that is too short comes before a bad number of the earlier, else the earlier part comes first
 unfoldable pub sooner : Verdict → Verdict → Verdict

@@ -1,7 +1,7 @@
 // New: a filter from n, x, P, Q and the parameters, a track on a sheet; refused, the empty filter. Each part is made by itself, and several tracks may be put on one sheet.
 ghost use mathlib.Core.Path.{_≡_};
 ghost use lib.Ieee.{binary64};
-ghost use Rattle.filter.specs.New.{freshSheet, freshTrack, from, newSheet, newTrack, newAnswer, emptySheet, emptyTrack, sooner};
+ghost use Rattle.filter.specs.New.{freshSheet, freshTrack, from, newSheet, newTrack, newAnswer, emptySheet, emptyTrack, refusedAnswer, sooner};
 use crate::Answer;
 use crate::Filter;
 use crate::Sheet;
@@ -80,6 +80,18 @@ pub fn empty_track() -> Track
     fresh_track([0.0; 8], [0.0; 64])
 }
 
+// The empty filter, with number and place.
+pub fn refused(refusal: Verdict) -> Answer
+    ensures { λ r. ⌜ r ≡ refusedAnswer refusal ⌝ }
+{
+    let sheet = empty_sheet();
+    let track = empty_track();
+    Answer {
+        filter: Filter { sheet, track },
+        refusal,
+    }
+}
+
 impl Sheet {
     pub fn new(n: usize, q: &[f64], params: Params) -> NewSheet
         ensures { λ r. ⌜ r ≡ newSheet binary64 n (now (q .entry)) params ⌝ }
@@ -142,12 +154,7 @@ impl Filter {
         let of_sheet = b.refusal;
         let refusal = sooner(of_track, of_sheet);
         if refusal.number != 0 {
-            let sheet = empty_sheet();
-            let track = empty_track();
-            return Answer {
-                filter: Filter { sheet, track },
-                refusal,
-            };
+            return refused(refusal);
         }
         let sheet = b.sheet;
         let track = a.track;

@@ -1,7 +1,7 @@
 // New: a filter from n, x, P, Q and the parameters, a track on a sheet; refused, the empty filter. Each part is made by itself. At f32, made from crates/filter by ./narrow.py: edit there.
 ghost use mathlib.Core.Path.{_≡_};
 ghost use lib.Ieee.{binary32};
-ghost use Rattle.filter.specs.New.{freshSheet, freshTrack, from, newSheet, newTrack, newAnswer, emptySheet, emptyTrack};
+ghost use Rattle.filter.specs.New.{freshSheet, freshTrack, from, newSheet, newTrack, newAnswer, emptySheet, emptyTrack, refusedAnswer};
 ghost use Rattle.filter32.specs.Wide.{wideAnswer, wideNewSheet, wideNewTrack, wideSheet, wideTrack};
 ghost use Rattle.sigma32.specs.Wide.{wideParams};
 use crate::Answer;
@@ -79,6 +79,18 @@ pub fn empty_track() -> Track
     fresh_track([0.0; 8], [0.0; 64])
 }
 
+// The empty filter, with number and place.
+pub fn refused(refusal: Verdict) -> Answer
+    ensures { λ r. ⌜ wideAnswer r ≡ refusedAnswer refusal ⌝ }
+{
+    let sheet = empty_sheet();
+    let track = empty_track();
+    Answer {
+        filter: Filter { sheet, track },
+        refusal,
+    }
+}
+
 impl Sheet {
     pub fn new(n: usize, q: &[f32], params: Params) -> NewSheet
         ensures { λ r. ⌜ wideNewSheet r ≡ newSheet binary32 n (now (q .entry)) (wideParams params) ⌝ }
@@ -131,12 +143,7 @@ impl Filter {
         let of_sheet = b.refusal;
         let refusal = filter::new::sooner(of_track, of_sheet);
         if refusal.number != 0 {
-            let sheet = empty_sheet();
-            let track = empty_track();
-            return Answer {
-                filter: Filter { sheet, track },
-                refusal,
-            };
+            return refused(refusal);
         }
         let sheet = b.sheet;
         let track = a.track;

@@ -28,11 +28,11 @@ use Rattle.filter.specs.Asked.{Param, by-params, inRange, within, long, fit, ev
 use Rattle.filter.specs.Filters.{sheet, filter}
 use Rattle.filter.specs.Records.{numbers, recordLength}
 use Rattle.filter.specs.Calls.{asKinds}
-use Rattle.filter.specs.New.{freshTrack, empty, from, inputsFor}
+use Rattle.filter.specs.New.{freshTrack, refusedAnswer, answerOf, from, inputsFor}
 use Rattle.filter.specs.Load.{filterOf, turnInputs, statesIn, numbersIn, eachKind, filterIn, isRecord, loadAsks, loadOf, loadAnswer}
 use Rattle.filter.proofs.Sizes.{and-true}
 use Rattle.filter.proofs.Order.{found-in-turn}
-use Rattle.records.specs.Parts.{formOf, judged, contentsOf, answerOf}
+use Rattle.records.specs.Parts.{formOf, judged, contentsOf}
 
 -- ---- the parts of a filter from the parts of its list of numbers
 
@@ -179,8 +179,8 @@ module _ (f : Format) (b : List ℕ) where
       from-three (leb 3 (length b)) (inOrder true (every within (loadAsks b .sizes)) (every long (loadAsks b .lent)) (isRecord b) false false nothing true true nothing) (contentsOf f b)
       (two-parts (every within (loadAsks b .sizes)) (every long (loadAsks b .lent)) (isRecord b) (searched (loadAsks b .inputs)) (every (fit f) (loadAsks b .params)) (filterIn b))
 
-  pub no-form : refusal (formOf b) .number ≢ 0 → record { filter = empty; refusal = refusal (formOf b) } ≡ loadAnswer b f
-  no-form h = let g = gave-number (formOf b) h in ap (λ (v : Verdict). record { filter = empty; refusal = v }) (g .2) ∙ ap answerOf (sym (in-two-parts ∙ ap (λ (o : Outcome Bool). onward o (λ (t : Bool). contentsOf f b)) (g .1)))
+  pub no-form : refusal (formOf b) .number ≢ 0 → refusedAnswer (refusal (formOf b)) ≡ loadAnswer b f
+  no-form h = let g = gave-number (formOf b) h in ap refusedAnswer (g .2) ∙ ap answerOf (sym (in-two-parts ∙ ap (λ (o : Outcome Bool). onward o (λ (t : Bool). contentsOf f b)) (g .1)))
 
   pub its-contents : refusal (formOf b) .number ≡ 0 → answerOf (contentsOf f b) ≡ loadAnswer b f
   its-contents h = ap answerOf (sym (in-two-parts ∙ ap (λ (o : Outcome Bool). onward o (λ (t : Bool). contentsOf f b)) (gave-zero (formOf b) true h)))
@@ -197,8 +197,8 @@ module _ (o : Outcome Bool) (s : Filter) where
   abbrev told : Answer
   told = answerOf (onward o (λ (t : Bool). accepted s))
 
-  pub judged-off : refusal o .number ≢ 0 → record { filter = empty; refusal = refusal o } ≡ told
-  judged-off h = let g = gave-number o h in ap (λ (v : Verdict). record { filter = empty; refusal = v }) (g .2) ∙ ap (λ (p : Outcome Bool). answerOf (onward p (λ (t : Bool). accepted s))) (sym (g .1))
+  pub judged-off : refusal o .number ≢ 0 → refusedAnswer (refusal o) ≡ told
+  judged-off h = let g = gave-number o h in ap refusedAnswer (g .2) ∙ ap (λ (p : Outcome Bool). answerOf (onward p (λ (t : Bool). accepted s))) (sym (g .1))
 
   pub judged-on : refusal o .number ≡ 0 → record { filter = s; refusal = refusal o } ≡ told
   judged-on h = let g = gave-zero o true h in ap (λ (p : Outcome Bool). record { filter = s; refusal = refusal p }) g ∙ ap (λ (p : Outcome Bool). answerOf (onward p (λ (t : Bool). accepted s))) (sym g)

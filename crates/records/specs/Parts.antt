@@ -5,12 +5,10 @@ use mathlib.Core.List.{List}
 use lib.Dec.{leb}
 use lib.ListN.{length}
 use lib.Ieee.{Format}
-use Rattle.floats.specs.Refusal.{SHORT, Outcome, accepted, refusal, or, unless, onward, nothing}
+use Rattle.floats.specs.Refusal.{SHORT, Outcome, accepted, unless, onward, nothing}
 use Rattle.floats.specs.Search.{Input, searched}
 use Rattle.filter.specs.declared.Filter.{Filter}
-use Rattle.filter.specs.declared.Answer.{Answer}
 use Rattle.filter.specs.Asked.{Param, within, long, fit, every, inOrder}
-use Rattle.filter.specs.New.{empty}
 use Rattle.filter.specs.Load.{filterIn, isRecord, loadAsks}
 
 -- 2, 1, 2, 12
@@ -26,7 +24,3 @@ judged f inputs params = inOrder true true true true false false (searched input
 unfoldable pub contentsOf : Format → List ℕ → Outcome Filter
 unfolding judged
 contentsOf f b = onward (judged f (loadAsks b .inputs) (loadAsks b .params)) (λ (t : Bool). accepted (filterIn b))
-
--- refused, the empty filter
-abbrev pub answerOf : Outcome Filter → Answer
-answerOf o = record { filter = or empty o; refusal = refusal o }

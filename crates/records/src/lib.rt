@@ -57,12 +57,7 @@ pub fn load(s: &[u8]) -> Answer
 {
     let refusal = form::form_refusal(s);
     if refusal.number != 0 {
-        let sheet = new::empty_sheet();
-        let track = new::empty_track();
-        return Answer {
-            filter: Filter { sheet, track },
-            refusal,
-        };
+        return new::refused(refusal);
     }
     read::contents(s)
 }

@@ -7,10 +7,10 @@ ghost use lib.Ieee.{binary64};
 ghost use Rattle.floats.specs.Refusal.{refusal};
 ghost use Rattle.filter.specs.Asked.{by-params};
 ghost use Rattle.filter.specs.Calls.{asKinds};
-ghost use Rattle.filter.specs.New.{from, inputsFor};
+ghost use Rattle.filter.specs.New.{from, answerOf, inputsFor};
 ghost use Rattle.filter.specs.Records.{recordLength};
 ghost use Rattle.filter.specs.Load.{statesIn, turnInputs};
-ghost use Rattle.records.specs.Parts.{judged, contentsOf, answerOf};
+ghost use Rattle.records.specs.Parts.{judged, contentsOf};
 use crate::turns;
 use angles::Kind;
 use filter::Answer;
@@ -68,12 +68,7 @@ pub fn contents(s: &[u8]) -> Answer
     let kinds = kinds::kinds_at(s, 27 + 8 * n + 16 * k, n);
     let refusal = contents_refusal(n, &x, &p, &q, params, kinds);
     if refusal.number != 0 {
-        let sheet = new::empty_sheet();
-        let track = new::empty_track();
-        return Answer {
-            filter: Filter { sheet, track },
-            refusal,
-        };
+        return new::refused(refusal);
     }
     let sheet = Sheet {
         n,

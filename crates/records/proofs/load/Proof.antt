@@ -1,14 +1,10 @@
 -- `load` meets its contract: the form, then what stands there. Assumes nothing.
-use mathlib.Core.Path.{sym, ap, ap₂, _∙_}
+use mathlib.Core.Path.{sym, ap, _∙_}
 use borrow.Author.Needs.{needs}
 use denote.Ref.{now}
 use lib.Ieee.{binary64}
-use Rattle.floats.specs.declared.Verdict.{Verdict}
 use Rattle.floats.proofs.Refusals.{number-of}
-use Rattle.filter.specs.declared.Sheet.{Sheet}
-use Rattle.filter.specs.declared.Track.{Track}
-use Rattle.filter.specs.Filters.{filter}
-use Rattle.filter.specs.New.{empty}
+use Rattle.filter.specs.New.{refusedAnswer}
 use Rattle.filter.proofs.Sizes.{range-le, square-le}
 use Rattle.records.proofs.Loaded.{has-form, no-form, its-contents}
 use Rattle.records.proofs.load.Statement.{statement}
@@ -16,11 +12,8 @@ use Rattle.records.proofs.load.Tie as tie
 
 returns : tie.Need-returns
 returns c =
-    let d = c .before .before .before .before in
-    let v = d .form-refusal .result in
-    ap₂ (λ (s : Sheet) (t : Track). record { filter = filter s t; refusal = v }) (c .before .empty-sheet .ensures) (c .empty-track .ensures)
-    ∙ ap (λ (r : Verdict). record { filter = empty; refusal = r }) (d .form-refusal .ensures)
-    ∙ no-form binary64 (now (d .before .before .args .s)) (λ z. c .before .before .if1 .taken (number-of (d .form-refusal .ensures) ∙ z))
+    let d = c .before .before .before in
+    c .refused .ensures ∙ ap refusedAnswer (d .form-refusal .ensures) ∙ no-form binary64 (now (d .before .before .args .s)) (λ z. c .before .if1 .taken (number-of (d .form-refusal .ensures) ∙ z))
 
 contents-requires : tie.Need-contents-requires
 contents-requires c κs =
@@ -35,4 +28,4 @@ returns-2 c =
     c .contents .ensures ∙ its-contents binary64 (now (d .before .before .args .s)) (sym (number-of (d .form-refusal .ensures)) ∙ c .before .if1 .left)
 
 pub load-spec : {M : Type 1} → statement M
-load-spec = tie.close (tie.spec (λ c κs. search needs) (λ c κs. search needs) (λ c κs. search needs) returns contents-requires returns-2)
+load-spec = tie.close (tie.spec (λ c κs. search needs) (λ c κs. search needs) returns contents-requires returns-2)

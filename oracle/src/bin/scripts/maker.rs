@@ -8,6 +8,7 @@ use oracle::filter::{list_length, Filter, Open, Way};
 use oracle::float::Float;
 use oracle::kinds::Kind;
 use oracle::pair::Side;
+use oracle::record::Record;
 use oracle::script::{named, On, Reader, BAD};
 use oracle::stages::Stage;
 use oracle::steps::{Average, Params};
@@ -67,12 +68,7 @@ pub struct Maker {
 
 /// What the maker looks at in a filter of either width.
 pub struct View {
-    pub n: usize,
-    pub x: Vec<f64>,
-    pub p: Vec<f64>,
-    pub q: Vec<f64>,
-    pub par: Params<f64>,
-    pub kinds: Vec<Kind<f64>>,
+    record: Record,
     pub stale: bool,
     pub open: Open,
     pub drawn_weights: [f64; 2],
@@ -85,19 +81,12 @@ pub struct View {
 
 impl View {
     fn of<T: Float>(filter: &Filter<T>) -> View {
-        let wide = |numbers: &[T]| numbers.iter().map(|number| number.wide()).collect();
-        let [alpha, beta, kappa] = filter.par.numbers().map(T::wide);
         View {
-            n: filter.n,
-            x: wide(&filter.x),
-            p: wide(&filter.p),
-            q: wide(&filter.q),
-            par: Params { alpha, beta, kappa },
-            kinds: filter.kinds.iter().map(|kind| kind.half().map_or(Kind::Plain, |h| Kind::Turn(h.wide()))).collect(),
+            record: Record::of(filter),
             stale: filter.stale,
             open: filter.open,
             drawn_weights: filter.drawn_weights.map(T::wide),
-            drawn_points: wide(&filter.drawn_points),
+            drawn_points: filter.drawn_points.iter().map(|number| number.wide()).collect(),
             stage: Stage::of(filter),
             at: filter.kept.at,
             m: filter.kept.m,
@@ -312,8 +301,13 @@ impl Maker {
         }
     }
 
+    /// What whose turn it is would be saved as.
+    pub fn record(&self) -> Record {
+        self.filter().record
+    }
+
     pub fn n(&self) -> usize {
-        self.filter().n
+        self.record().n
     }
 
     /// Whether nothing is open.
@@ -502,7 +496,7 @@ impl Maker {
 
     /// Whether some state is a turn.
     pub fn turns(&self) -> bool {
-        self.filter().kinds.iter().any(|kind| kind.half().is_some())
+        self.record().kinds.iter().any(|kind| kind.half().is_some())
     }
 
     /// Four KINDs, these first.

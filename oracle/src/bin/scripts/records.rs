@@ -44,12 +44,6 @@ impl Maker {
         self.tell(format!("load {hex}"))
     }
 
-    /// What whose turn it is would be saved as.
-    fn record(&self) -> Record {
-        let filter = self.filter();
-        Record { n: filter.n, x: filter.x, p: filter.p, q: filter.q, par: filter.par, kinds: filter.kinds }
-    }
-
     fn fresh_record(&mut self, n: usize, unit: f64, turns: bool) -> Record {
         let (x, p, q, par) =
             (self.random.vector(n, unit), self.random.covariance(n, unit), self.random.noise(n, unit), self.random.params(n));

@@ -124,7 +124,7 @@ impl Maker {
             out[at] = self.random.least();
         }
         if self.random.chance(70) {
-            for (number, kind) in out.iter_mut().zip(self.filter().kinds.iter().cycle()) {
+            for (number, kind) in out.iter_mut().zip(self.record().kinds.iter().cycle()) {
                 *number = kind.fixed(*number);
             }
         }
@@ -297,7 +297,7 @@ impl Maker {
         let p = self.random.covariance(n, unit);
         let line = format!("setp {}", self.list(&p, Fault::None));
         self.say(line)?;
-        if self.width().weights(n, self.filter().par).total > 1.0e9 {
+        if self.width().weights(n, self.record().par).total > 1.0e9 {
             let par = self.random.params(n);
             self.say(format!("setpar {}", self.params(par)))?;
         }
@@ -366,25 +366,25 @@ impl Maker {
         let (n, again) = (self.n(), self.n() > 0 && self.random.chance(15));
         let line = match call {
             "setx" => {
-                let x = if again { self.filter().x } else { self.random.vector(n, unit) };
+                let x = if again { self.record().x } else { self.random.vector(n, unit) };
                 format!("setx {}", self.list(&x, Fault::None))
             }
             "setp" => {
-                let p = if again { self.filter().p } else { self.random.covariance(n, unit) };
+                let p = if again { self.record().p } else { self.random.covariance(n, unit) };
                 format!("setp {}", self.list(&p, Fault::None))
             }
             "setq" => {
-                let q = if again { self.filter().q } else { self.random.noise(n, unit) };
+                let q = if again { self.record().q } else { self.random.noise(n, unit) };
                 format!("setq {}", self.list(&q, Fault::None))
             }
             "setpar" => {
-                let par = if again { self.filter().par } else { self.random.params(n) };
+                let par = if again { self.record().par } else { self.random.params(n) };
                 format!("setpar {}", self.params(par))
             }
             _ => {
                 let i = self.random.below(n.max(1));
                 let new = if again {
-                    self.filter().kinds[i]
+                    self.record().kinds[i]
                 } else if self.random.chance(40) {
                     Kind::Plain
                 } else {

@@ -46,9 +46,9 @@ asked c = record {
 returns : tie.Need-returns
 unfolding newOf
 returns c =
-    let d = c .before .before .before .before in
-    let q = new-stopped binary32 _ (made (start d)) empty (asked d .is) (c .before .before .if1 .taken) in
-    ap₂ answer (ap₂ filter (c .before .empty-sheet .ensures) (c .empty-track .ensures) ∙ q .0) (q .1)
+    let d = c .before .before .before in
+    let q = new-stopped binary32 _ (made (start d)) empty (asked d .is) (c .before .if1 .taken) in
+    c .refused .ensures ∙ ap₂ answer (q .0) (q .1)
 
 returns-2 : tie.Need-returns-2
 unfolding newOf
@@ -70,7 +70,6 @@ pub new-spec : {M : Type 1} → statement M
 new-spec =
     tie.close
     (tie.spec
-    (λ c κs. search needs)
     (λ c κs. search needs)
     (λ c κs. search needs)
     (λ c κs. search needs)

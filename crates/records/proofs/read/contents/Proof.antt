@@ -16,10 +16,9 @@ use Rattle.angles.specs.declared.Kind.{Kind}
 use Rattle.pieces.specs.Bytes.{kindAt}
 use Rattle.sigma.specs.declared.Params.{Params}
 use Rattle.filter.specs.declared.Filter.{Filter}
-use Rattle.filter.specs.declared.Sheet.{Sheet}
 use Rattle.filter.specs.declared.Track.{Track}
 use Rattle.filter.specs.Filters.{sheet, filter}
-use Rattle.filter.specs.New.{empty}
+use Rattle.filter.specs.New.{refusedAnswer}
 use Rattle.filter.specs.Load.{statesIn, filterIn, loadAsks}
 use Rattle.records.specs.Parts.{judged, contentsOf}
 use Rattle.records.proofs.Loaded.{kinds-at, Parts, parts-judged, parts-filter, judged-on, judged-off}
@@ -55,12 +54,9 @@ judged-is c = c .contents-refusal .ensures ∙ parts-judged (bytes (read c)) (pa
 returns : tie.Need-returns
 unfolding contentsOf
 returns c =
-    let d = c .before .before .before .before in
+    let d = c .before .before .before in
     let b = bytes (read d) in
-    let v = d .contents-refusal .result in
-    ap₂ (λ (s : Sheet) (t : Track). record { filter = filter s t; refusal = v }) (c .before .empty-sheet .ensures) (c .empty-track .ensures)
-    ∙ ap (λ (r : Verdict). record { filter = empty; refusal = r }) (judged-is d)
-    ∙ judged-off (tests b) (filterIn b) (λ z. c .before .before .if1 .taken (number-of (judged-is d) ∙ z))
+    c .refused .ensures ∙ ap refusedAnswer (judged-is d) ∙ judged-off (tests b) (filterIn b) (λ z. c .before .if1 .taken (number-of (judged-is d) ∙ z))
 
 returns-2 : tie.Need-returns-2
 unfolding contentsOf
@@ -112,7 +108,6 @@ contents-spec =
     (λ c. search needs)
     (λ c. search needs)
     (λ c. search needs)
-    (λ c κs. search needs)
     (λ c κs. search needs)
     (λ c κs. search needs)
     returns
