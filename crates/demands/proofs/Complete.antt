@@ -120,6 +120,8 @@ use Rattle.filter.proofs.new.empty_sheet.Kinds as empty-sheet-of
 use Rattle.filter.proofs.new.empty_sheet.Reads as empty-sheet
 use Rattle.filter.proofs.new.empty_track.Kinds as empty-track-of
 use Rattle.filter.proofs.new.empty_track.Reads as empty-track
+use Rattle.filter.proofs.new.refused.Kinds as refused-of
+use Rattle.filter.proofs.new.refused.Reads as refused
 use Rattle.filter.proofs.new.fresh_track.Kinds as fresh-track-of
 use Rattle.filter.proofs.new.fresh_track.Reads as fresh-track
 use Rattle.filter.proofs.new.sooner.Kinds as sooner-of
@@ -411,6 +413,9 @@ empty-sheet-one κs a z z′ w w′ p q = (by p q, refl)
 
 pub empty-track-one : OneAnswer empty-track-of.ps empty-track-of.r empty-track.Learnt
 empty-track-one κs a z z′ w w′ p q = (by p q, refl)
+
+pub refused-one : OneAnswer refused-of.ps refused-of.r refused.Learnt
+refused-one κs a z z′ w w′ p q = (by p q, refl)
 
 pub fresh-track-one : OneAnswer fresh-track-of.ps fresh-track-of.r fresh-track.Learnt
 fresh-track-one κs a z z′ w w′ p q = (by p q, refl)

@@ -121,10 +121,10 @@ module _ (f : Format) where
   sheet-taken-when = new-sheet-taken f
 
   -- of load, which gives 2 under three bytes, and from there on goes by the table (what it asks, and what 12 means, in words: Records),
-  pub load-exactly-when : (b : List ℕ) (r : Refusal) → (loadAnswer b f .refusal ≡ verdict r) ↔ (((length b < 3) × (r ≡ SHORT)) ⊎ ((3 ≤ length b) × Due f (loadAsks b) [] r))
+  pub load-exactly-when : (b : List ℕ) (r : Refusal) → (loadAnswer f b .refusal ≡ verdict r) ↔ (((length b < 3) × (r ≡ SHORT)) ⊎ ((3 ≤ length b) × Due f (loadAsks b) [] r))
   load-exactly-when = load-exactly f
 
-  pub load-taken-when : (b : List ℕ) → (loadAnswer b f .refusal ≡ taken) ↔ ((3 ≤ length b) × ((d : Cause) → Applies f (loadAsks b) [] d → ⊥))
+  pub load-taken-when : (b : List ℕ) → (loadAnswer f b .refusal ≡ taken) ↔ ((3 ≤ length b) × ((d : Cause) → Applies f (loadAsks b) [] d → ⊥))
   load-taken-when = load-taken f
 
   -- of point k of a lent list, which asks for k up to 2n and for the whole list, and doesn't judge its numbers,
@@ -433,7 +433,7 @@ module _ (f : Format) where
   refused-reading = refused-values f
 
   -- a refused New and a refused load give the empty filter, a refused part of New that of the empty filter, and a refused point an empty part.
-  pub refused-load : (b : List ℕ) → loadAnswer b f .refusal .number ≢ 0 → loadAnswer b f .filter ≡ empty
+  pub refused-load : (b : List ℕ) → loadAnswer f b .refusal .number ≢ 0 → loadAnswer f b .filter ≡ empty
   refused-load = load-refused f
 
   pub refused-new : (n : ℕ) (x p q : List Float) (params : Params) → newAnswer f n x p q params .refusal .number ≢ 0 → newAnswer f n x p q params .filter ≡ empty

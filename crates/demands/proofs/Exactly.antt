@@ -285,11 +285,11 @@ short-taken true n e o D k = (λ z. (leb-true 3 n e, k .0 z), λ w. k .1 (w .1))
 short-taken false n e o D k = (λ z. absurd (omega (arith, number-of z)), λ w. absurd (omega (arith, leb-false 3 n e, w .0)))
 
 module _ (f : Format) (b : List ℕ) where
-  pub load-exactly : (r : Refusal) → (loadAnswer b f .refusal ≡ verdict r) ↔ (((length b < 3) × (r ≡ SHORT)) ⊎ ((3 ≤ length b) × Due f (loadAsks b) [] r))
+  pub load-exactly : (r : Refusal) → (loadAnswer f b .refusal ≡ verdict r) ↔ (((length b < 3) × (r ≡ SHORT)) ⊎ ((3 ≤ length b) × Due f (loadAsks b) [] r))
   unfolding loadOf
   load-exactly r = short-first (leb 3 (length b)) (length b) refl (guarded f (loadAsks b) (accepted (filterIn b))) r _ (guarded-exactly f (loadAsks b) [] (accepted (filterIn b)) no-first r)
 
-  pub load-taken : (loadAnswer b f .refusal ≡ taken) ↔ ((3 ≤ length b) × ((c : Cause) → Applies f (loadAsks b) [] c → ⊥))
+  pub load-taken : (loadAnswer f b .refusal ≡ taken) ↔ ((3 ≤ length b) × ((c : Cause) → Applies f (loadAsks b) [] c → ⊥))
   unfolding loadOf
   load-taken = short-taken (leb 3 (length b)) (length b) refl (guarded f (loadAsks b) (accepted (filterIn b))) _ (guarded-taken f (loadAsks b) [] (accepted (filterIn b)) no-first)
 
@@ -413,8 +413,8 @@ module _ (f : Format) (n : ℕ) where
   pub new-sheet-refused : (q : List Float) (params : Params) → newSheet f n q params .refusal .number ≢ 0 → newSheet f n q params .sheet ≡ emptySheet
   new-sheet-refused q params = or-refused emptySheet (newSheetOf f n q params)
 
-pub load-refused : (f : Format) (b : List ℕ) → loadAnswer b f .refusal .number ≢ 0 → loadAnswer b f .filter ≡ empty
-load-refused f b = or-refused empty (loadOf b f)
+pub load-refused : (f : Format) (b : List ℕ) → loadAnswer f b .refusal .number ≢ 0 → loadAnswer f b .filter ≡ empty
+load-refused f b = or-refused empty (loadOf f b)
 
 -- a refused point is an empty part
 pub point-refused : (f : Format) (l : List Float) (n k : ℕ) → pointRefusal f l n k .number ≢ 0 → pointOf f l n k ≡ []

@@ -1,4 +1,4 @@
--- The numbers of a filter stay an f64's: New makes them so, load does, and every call that is lent an f64's numbers keeps them so. Assumes nothing.
+-- The numbers of a filter stay an f64's: New makes them so, load does, and every call that is lent an f64's numbers keeps them so. Those of a side of a pair too. Assumes nothing.
 use Prim.Native.Nat.{ℕ, zero, suc, _*_}
 use mathlib.Core.Path.{_≡_, refl, sym, ap, ap₂, subst}
 use mathlib.Core.Bool.{Bool, true, _&&_}
@@ -25,16 +25,21 @@ use Rattle.filter.specs.Steps.{step}
 use Rattle.filter.specs.New.{empty, from, newAsks, newOf, newAnswer}
 use Rattle.filter.proofs.Sizes.{and-left, and-right}
 use Rattle.filter.proofs.Closing.{predicting}
+use Rattle.pairs.specs.declared.Pair.{Pair}
+use Rattle.pairs.specs.declared.Side.{Side}
+use Rattle.pairs.specs.Pairs.{solo}
 use Rattle.demands.specs.Listed.{state, covariance}
 use Rattle.demands.specs.Sound.{Yielded, fresh-made, loaded, stepped-on, put-at-will}
 use Rattle.demands.specs.Settings.{Unmarking}
-use Rattle.demands.specs.Records.{Fit, FitKinds, Storable, FitCall, Fed, fed-new, fed-load, fed-call, fed-at-will}
+use Rattle.demands.specs.PairSound.{PairYielded, pair-made, pair-stepped, pair-at-will}
+use Rattle.demands.specs.Records.{Fit, FitKinds, Storable, FitCall, Fed, fed-new, fed-load, fed-call, fed-at-will, PairFed, pair-fed-new, pair-fed-call, pair-fed-at-will}
 use Rattle.demands.proofs.Passed.{by-cases, made}
 use Rattle.demands.proofs.Exactly.{ends-so, refused-nothing}
 use Rattle.demands.proofs.Leftover.{step-cases}
 use Rattle.demands.proofs.Sound.{load-cases}
 use Rattle.demands.proofs.Accepted.{prediction-closed, correction-closed, flat-correction-closed, stepped-closed, writing-taken, setting-taken}
 use Rattle.demands.proofs.SincePredicted.{taken-bare}
+use Rattle.demands.proofs.PairSound.{empty-new, new-holds, side-holds, will-hold}
 use Rattle.demands.proofs.Restored.{every-front, every-back, every-both, zeros-fit, read-storable}
 
 -- ---- lists
@@ -131,3 +136,19 @@ fed-yielded (fed-new n x p q params hx hp hq hv) = fresh-made n x p q params
 fed-yielded (fed-load b) = loaded b
 fed-yielded (fed-call y c h) = stepped-on (fed-yielded y) c
 fed-yielded (fed-at-will t y a) = put-at-will t (fed-yielded y) a
+
+-- ---- a side of a pair
+
+empty-fed : Fed empty
+unfolding fits
+empty-fed = subst Fed (sym (empty-new binary64)) (fed-new 0 [] [] [] _ refl refl refl refl)
+
+pub side-fed : {p : Pair} → PairFed p → (w : Side) → Fed (solo p w)
+side-fed (pair-fed-new n x₁ p₁ x₂ p₂ q params h₁ k₁ h₂ k₂ g v) w = new-holds binary64 n q params x₁ p₁ x₂ p₂ Fed empty-fed (fed-new n x₁ p₁ q params h₁ k₁ g v) (fed-new n x₂ p₂ q params h₂ k₂ g v) w
+side-fed (pair-fed-call {p = p} y v c h) w = side-holds binary64 Fed c (λ s z. fed-call z c h) p v w (side-fed y w)
+side-fed (pair-fed-at-will {p = p} q y e a) w = will-hold binary64 Fed (λ s t z k. fed-at-will t z k) p q w (side-fed y w) e (a w)
+
+pub pair-fed-yielded : {p : Pair} → PairFed p → PairYielded binary64 p
+pair-fed-yielded (pair-fed-new n x₁ p₁ x₂ p₂ q params h₁ k₁ h₂ k₂ g v) = pair-made n x₁ p₁ x₂ p₂ q params
+pair-fed-yielded (pair-fed-call y w c h) = pair-stepped (pair-fed-yielded y) w c
+pair-fed-yielded (pair-fed-at-will q y e a) = pair-at-will q (pair-fed-yielded y) e a

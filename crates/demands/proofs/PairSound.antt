@@ -13,18 +13,17 @@ use Rattle.floats.specs.Numbers.{plusZero, allFinite}
 use Rattle.floats.proofs.Refusals.{number-above}
 use Rattle.sigma.specs.declared.Params.{Params}
 use Rattle.filter.specs.declared.Filter.{Filter}
-use Rattle.filter.specs.declared.Answer.{Answer}
 use Rattle.filter.specs.Asked.{by-params, inRange, fit, every}
 use Rattle.filter.specs.Filters.{filter}
 use Rattle.filter.specs.Calls.{Call, valuesOf}
 use Rattle.filter.specs.Steps.{stepped, step}
-use Rattle.filter.specs.New.{empty, from, inputsFor, sheetFrom, trackFrom, newOf, newAnswer}
+use Rattle.filter.specs.New.{empty, answerOf, from, inputsFor, sheetFrom, trackFrom, newOf, newAnswer}
 use Rattle.pairs.specs.declared.Pair.{Pair}
 use Rattle.pairs.specs.declared.Side.{Side}
 use Rattle.pairs.specs.declared.Side.the-variants.{First, Second}
 use Rattle.pairs.specs.Pairs.{trackAt, solo, pairStep}
 use Rattle.pairs.specs.NewPair.{emptyPair, newPairAsks, newPairOf, newPairAnswer}
-use Rattle.demands.specs.Runs.{tells}
+use Rattle.demands.specs.Runs.{tells, Alike}
 use Rattle.demands.specs.Sound.{Sound, Reached, made, further, Yielded, fresh-made, stepped-on, put-at-will, handedOut, Each, end, and}
 use Rattle.demands.specs.PairRuns.{SideCall, on, pairTells, pairTold, barred, reaches}
 use Rattle.demands.specs.PairSound.{AtWill, PairReached, pair-new, pair-further, PairYielded, pair-made, pair-stepped, pair-at-will}
@@ -39,7 +38,7 @@ module _ (f : Format) where
   -- ---- New
 
   -- the empty filter is what New gives for no states
-  empty-new : empty ≡ newAnswer f 0 [] [] [] (record { alpha = plusZero; beta = plusZero; kappa = plusZero }) .filter
+  pub empty-new : empty ≡ newAnswer f 0 [] [] [] (record { alpha = plusZero; beta = plusZero; kappa = plusZero }) .filter
   unfolding newOf inRange
   empty-new = refl
 
@@ -71,51 +70,49 @@ module _ (f : Format) where
           (newAnswer f n x₁ p₁ q params ≡ record { filter = solo p First; refusal = taken }) × (newAnswer f n x₂ p₂ q params ≡ record { filter = solo p Second; refusal = taken })
       new-sides = go (newPairOf f n x₁ p₁ x₂ p₂ q params) new-made-sides
         where
-          answer : Outcome Filter → Answer
-          answer o = record { filter = or empty o; refusal = refusal o }
-
           go : (o : Outcome Pair) → Sides o → refusal o .number ≡ 0 → (newAnswer f n x₁ p₁ q params ≡ record { filter = solo (or emptyPair o) First; refusal = taken }) × (newAnswer f n x₂ p₂ q params ≡ record { filter = solo (or emptyPair o) Second; refusal = taken })
           go (refused r) s e = absurd (omega (arith, number-above r))
-          go (accepted p) s e = (ap answer (s .0), ap answer (s .1))
+          go (accepted p) s e = (ap answerOf (s .0), ap answerOf (s .1))
 
       pub new-empty : (newPairAnswer f n x₁ p₁ x₂ p₂ q params .refusal .number ≡ 0 → ⊥) → newPairAnswer f n x₁ p₁ x₂ p₂ q params .pair ≡ emptyPair
       new-empty = or-refused emptyPair (newPairOf f n x₁ p₁ x₂ p₂ q params)
 
-      -- so what holds of whatever New gives holds of each
-      new-holds : (P : Filter → Type 0) → ((m : ℕ) (x p r : List Float) (v : Params) → P (newAnswer f m x p r v .filter)) → (w : Side) → P (solo (newPairAnswer f n x₁ p₁ x₂ p₂ q params .pair) w)
-      new-holds P h = go (newPairOf f n x₁ p₁ x₂ p₂ q params) new-made-sides
+      -- so what holds of the empty filter and of what New gives for each start holds of each
+      pub new-holds : (P : Filter → Type 0) → P empty → P (newAnswer f n x₁ p₁ q params .filter) → P (newAnswer f n x₂ p₂ q params .filter) → (w : Side) → P (solo (newPairAnswer f n x₁ p₁ x₂ p₂ q params .pair) w)
+      new-holds P e h₁ h₂ = go (newPairOf f n x₁ p₁ x₂ p₂ q params) new-made-sides
         where
           go : (o : Outcome Pair) → Sides o → (w : Side) → P (solo (or emptyPair o) w)
-          go (refused r) s First = subst P (sym empty-new) (h 0 [] [] [] _)
-          go (refused r) s Second = subst P (sym empty-new) (h 0 [] [] [] _)
-          go (accepted p) s First = subst P (ap (or empty) (s .0)) (h n x₁ p₁ q params)
-          go (accepted p) s Second = subst P (ap (or empty) (s .1)) (h n x₂ p₂ q params)
+          go (refused r) s First = e
+          go (refused r) s Second = e
+          go (accepted p) s First = subst P (ap (or empty) (s .0)) h₁
+          go (accepted p) s Second = subst P (ap (or empty) (s .1)) h₂
 
   -- ---- EACH SIDE IS A FILTER THAT THE DEMANDS SPEAK OF
 
-  -- what solo calls keep, calls on a pair keep of each side
-  side-holds : (P : Filter → Type 0) → ((s : Filter) → P s → (c : Call) → P (step f s c .filter)) → (p : Pair) (v w : Side) (c : Call) → P (solo p w) → P (solo (pairStep f p v c .pair) w)
-  side-holds P h p v w c y = go (reaches v c w) refl
+  -- what a solo call keeps, the call on a pair keeps of each side
+  pub side-holds : (P : Filter → Type 0) (c : Call) → ((s : Filter) → P s → P (step f s c .filter)) → (p : Pair) (v w : Side) → P (solo p w) → P (solo (pairStep f p v c .pair) w)
+  side-holds P c h p v w y = go (reaches v c w) refl
     where
       mine : (b : Bool) → P (cond b (stepped (solo p w) (refused STAGE)) (step f (solo p w) c) .filter)
       mine true = y
-      mine false = h (solo p w) y c
+      mine false = h (solo p w) y
 
       go : (r : Bool) → reaches v c w ≡ r → P (solo (pairStep f p v c .pair) w)
       go true h = rw (reached f p v c w h, side-barred f p w c) (mine (barred p w c))
       go false h = rw (unreached f p v c w h) y
 
-  at-will : (p q : Pair) (w : Side) → Yielded f (solo p w) → p .sheet ≡ q .sheet → AtWill (trackAt p w) (trackAt q w) → Yielded f (solo q w)
-  at-will p q w y e = ⊎-elim (λ d. subst (Yielded f) (ap₂ filter e d) y) (λ a. put-at-will (solo q w) y (record { sheet = e; track = a }))
+  -- what alike filters have, a side has with points, weights and scratch put at will
+  pub will-hold : (P : Filter → Type 0) → ((s t : Filter) → P s → Alike s t → P t) → (p q : Pair) (w : Side) → P (solo p w) → p .sheet ≡ q .sheet → AtWill (trackAt p w) (trackAt q w) → P (solo q w)
+  will-hold P h p q w y e = ⊎-elim (λ d. subst P (ap₂ filter e d) y) (λ a. h (solo p w) (solo q w) y (record { sheet = e; track = a }))
 
   pub side-yielded : {p : Pair} → PairYielded f p → (w : Side) → Yielded f (solo p w)
-  side-yielded (pair-made n x₁ p₁ x₂ p₂ q params) w = new-holds n q params x₁ p₁ x₂ p₂ (Yielded f) (λ m x p r v. fresh-made m x p r v) w
-  side-yielded (pair-stepped {p = p} y v c) w = side-holds (Yielded f) (λ s z d. stepped-on z d) p v w c (side-yielded y w)
-  side-yielded (pair-at-will {p = p} q y e a) w = at-will p q w (side-yielded y w) e (a w)
+  side-yielded (pair-made n x₁ p₁ x₂ p₂ q params) w = new-holds n q params x₁ p₁ x₂ p₂ (Yielded f) (subst (Yielded f) (sym empty-new) (fresh-made 0 [] [] [] _)) (fresh-made n x₁ p₁ q params) (fresh-made n x₂ p₂ q params) w
+  side-yielded (pair-stepped {p = p} y v c) w = side-holds (Yielded f) c (λ s z. stepped-on z c) p v w (side-yielded y w)
+  side-yielded (pair-at-will {p = p} q y e a) w = will-hold (Yielded f) (λ s t z k. put-at-will t z k) p q w (side-yielded y w) e (a w)
 
   pub side-reached : {p : Pair} → PairReached f p → (w : Side) → Reached f (solo p w)
-  side-reached (pair-new n x₁ p₁ x₂ p₂ q params) w = new-holds n q params x₁ p₁ x₂ p₂ (Reached f) (λ m x p r v. made m x p r v) w
-  side-reached (pair-further {p = p} y v c) w = side-holds (Reached f) (λ s z d. further z d) p v w c (side-reached y w)
+  side-reached (pair-new n x₁ p₁ x₂ p₂ q params) w = new-holds n q params x₁ p₁ x₂ p₂ (Reached f) (subst (Reached f) (sym empty-new) (made 0 [] [] [] _)) (made n x₁ p₁ q params) (made n x₂ p₂ q params) w
+  side-reached (pair-further {p = p} y v c) w = side-holds (Reached f) c (λ s z. further z c) p v w (side-reached y w)
 
   -- ---- EVERY NUMBER HANDED OUT IS FINITE
 

@@ -9,8 +9,7 @@ use lib.Dec.{leb, eqb}
 use lib.ListN.{length, take, drop, getD, replicate, length-append, length-drop}
 use lib.Ieee.{Float, Format, binary64, ofBits}
 use Rattle.floats.specs.declared.Slice.the-variants.{State, Covariance, Noise, Lone}
-use Rattle.floats.specs.declared.Verdict.{Verdict}
-use Rattle.floats.specs.Refusal.{taken, Outcome, accepted, refusal, or}
+use Rattle.floats.specs.Refusal.{taken, Outcome, accepted, refusal}
 use Rattle.floats.specs.Search.{Input, input, searched}
 use Rattle.floats.specs.Numbers.{zeros, allFinite}
 use Rattle.floats.specs.Fronts.{over}
@@ -28,7 +27,7 @@ use Rattle.filter.specs.Filters.{isShut, filter, sheet, seen}
 use Rattle.filter.specs.Records.{numbersOf, bytesOf, recordLength, numbers}
 use Rattle.filter.specs.Calls.{Call, reading, save, halves, asKinds, valuesOf, Done, plan}
 use Rattle.filter.specs.Steps.{Reply, Stepped, step}
-use Rattle.filter.specs.New.{freshTrack, empty, from, inputsFor}
+use Rattle.filter.specs.New.{freshTrack, empty, answerOf, from, inputsFor}
 use Rattle.filter.specs.Load.{filterOf, turnInputs, statesIn, numbersIn, eachKind, filterIn, isRecord, loadAsks, loadOf, loadAnswer}
 use Rattle.records.proofs.Loaded.{filter-of, xIn, pIn, qIn, param, numbers-are, kinds-at}
 use Rattle.pieces.proofs.Laws.{length-read}
@@ -49,7 +48,7 @@ use Rattle.demands.proofs.Leftover.{nothing-left-over, shut-is}
 use Rattle.demands.proofs.Saving.{saved-exactly, saved-as}
 use Rattle.demands.proofs.Arrays.{all-both}
 use Rattle.demands.proofs.Fine.{in-range}
-use Rattle.demands.proofs.Restored.{record-long, record-bytes, read-back, front-of, from-three, Took, took, read-exact}
+use Rattle.demands.proofs.Restored.{record-long, record-bytes, read-back, front-of, past-three, Took, took, read-exact}
 
 module _ (f : Format) where
   pub lengthy : {s : Filter} → Yielded f s → (length (bytesOf s) ≡ recordLength (s .sheet .n)) × AreBytes (bytesOf s)
@@ -77,18 +76,18 @@ module _ (f : Format) where
     written-is : written ≡ bytesOf s ++ drop (length (bytesOf s)) out
     written-is = ap (λ (t : Stepped). over (t .reply .bytes) out) (saved-as f s out z)
 
-    back : loadOf written f ≡ accepted (refreshed s)
-    back = ap (λ (b : List ℕ). loadOf b f) written-is ∙ read-back f s (sound f y) g (taken-so .0 .states .0) (drop (length (bytesOf s)) out)
+    back : loadOf f written ≡ accepted (refreshed s)
+    back = ap (loadOf f) written-is ∙ read-back f s (sound f y) g (taken-so .0 .states .0) (drop (length (bytesOf s)) out)
 
     -- with its sheet, x and P, and else as New leaves a filter; so alike
-    pub restored : loadAnswer written f ≡ record { filter = refreshed s; refusal = taken }
-    restored = ap₂ (λ (t : Filter) (v : Verdict). record { filter = t; refusal = v }) (ap (or empty) back) (ap refusal back)
+    pub restored : loadAnswer f written ≡ record { filter = refreshed s; refusal = taken }
+    restored = ap answerOf back
 
-    pub kept : (loadAnswer written f .refusal ≡ taken) × Alike s (loadAnswer written f .filter)
+    pub kept : (loadAnswer f written .refusal ≡ taken) × Alike s (loadAnswer f written .filter)
     kept = (ap (λ (a : Answer). a .refusal) restored, subst (λ (a : Answer). Alike s (a .filter)) (sym restored) (refreshed-alike s (taken-so .1) (taken-so .0 .shut)))
 
-    pub same-answers : (cs : List Call) → told f s cs ≡ told f (loadAnswer written f .filter) cs
-    same-answers = nothing-left-over f s (loadAnswer written f .filter) (kept .1)
+    pub same-answers : (cs : List Call) → told f s cs ≡ told f (loadAnswer f written .filter) cs
+    same-answers = nothing-left-over f s (loadAnswer f written .filter) (kept .1)
 
   -- ---- nothing left over
 
@@ -151,26 +150,26 @@ module _ (b : List ℕ) where
   asks-in = ap₂ (λ (i : List Input) (q : List Param). record { fits = true; sizes = record { value = n; from = 1; to = 8 } ∷ []; lent = of-bytes b (recordLength n) ∷ []; formed = isRecord b; stale = false; fresh = false; inputs = i; plain = []; params = q }) searched-in params-in
 
   module _ (f : Format) where
-    module _ (z : loadAnswer b f .refusal .number ≡ 0) where
-      is-taken : loadOf b f ≡ accepted (loadAnswer b f .filter)
-      is-taken = gave-zero (loadOf b f) empty z
+    module _ (z : loadAnswer f b .refusal .number ≡ 0) where
+      is-taken : loadOf f b ≡ accepted (loadAnswer f b .filter)
+      is-taken = gave-zero (loadOf f b) empty z
 
-      pub took-it : Took b f (loadAnswer b f .filter)
-      took-it = took b f (loadAnswer b f .filter) is-taken
+      pub took-it : Took b f (loadAnswer f b .filter)
+      took-it = took b f (loadAnswer f b .filter) is-taken
 
-      pub taken-reads : Reads b (loadAnswer b f .filter)
+      pub taken-reads : Reads b (loadAnswer f b .filter)
       taken-reads = subst (Reads b) (sym filter-is ∙ took-it .is) parted-reads
 
-      pub read-only : (t : Filter) → Reads b t → t ≡ loadAnswer b f .filter
+      pub read-only : (t : Filter) → Reads b t → t ≡ loadAnswer f b .filter
       read-only t r = reads-parted t r ∙ sym filter-is ∙ took-it .is
 
-      pub saved-again : AreBytes b → bytesOf (loadAnswer b f .filter) ≡ take (recordLength n) b
+      pub saved-again : AreBytes b → bytesOf (loadAnswer f b .filter) ≡ take (recordLength n) b
       saved-again = read-exact b took-it
 
       -- and saving it is taken wherever there is room
-      pub saves-again : AreBytes b → (out : List ℕ) → recordLength n ≤ length out → step f (loadAnswer b f .filter) (reading (save out)) .reply ≡ record { refusal = taken; given = []; stale = true; bytes = take (recordLength n) b }
+      pub saves-again : AreBytes b → (out : List ℕ) → recordLength n ≤ length out → step f (loadAnswer f b .filter) (reading (save out)) .reply ≡ record { refusal = taken; given = []; stale = true; bytes = take (recordLength n) b }
       saves-again a out room =
-          let t = loadAnswer b f .filter in
+          let t = loadAnswer f b .filter in
           let r = taken-reads in
           let states : (1 ≤ t .sheet .n) × (t .sheet .n ≤ 8) = subst (λ (k : ℕ). (1 ≤ k) × (k ≤ 8)) (sym (r .n)) (in-range 1 8 n (took-it .passed .sizes .0)) in
           let before : BeforeFresh t out = record { shut = ap (λ (v : Track). isShut (v .stage)) (r .rest); states = states; room = subst (λ (k : ℕ). recordLength k ≤ length out) (sym (r .n)) room } in
@@ -245,19 +244,19 @@ module _ (b rest : List ℕ) (h : 3 ≤ length b) (k : recordLength (getD b 2 0)
   filter-same : filterIn longer ≡ filterIn b
   filter-same = ap (λ (i : ℕ). filterOf i (numbersIn longer) (eachKind longer kindAt)) states-same ∙ ap₂ (filterOf (statesIn b)) numbers-same (kinds-same kindAt (kind-front rest))
 
-  pub rest-unread : (f : Format) → loadAnswer longer f ≡ loadAnswer b f
+  pub rest-unread : (f : Format) → loadAnswer f longer ≡ loadAnswer f b
   rest-unread f =
       let ks = kinds-same kindAt (kind-front rest) in
       let long-same : every long (loadAsks longer .lent) ≡ every long (loadAsks b .lent) =
       ap (λ (i : ℕ). leb (recordLength i) (length longer) && true) states-same ∙ ap (λ (t : Bool). t && true) (le-leb (recordLength (statesIn b)) (length longer) (omega (arith, length-append b rest)) ∙ sym (le-leb (recordLength (statesIn b)) (length b) k)) in
-      ap (λ (o : Outcome Filter). record { filter = or empty o; refusal = refusal o })
-      (from-three f longer (omega (arith, length-append b rest))
+      ap answerOf
+      (past-three f longer (omega (arith, length-append b rest))
       ∙ agrees f (loadAsks longer) (accepted (filterIn longer)) (loadAsks b) refl (ap (λ (i : ℕ). within (record { value = i; from = 1; to = 8 }) && true) states-same) long-same form-same refl refl
       (ap searched (ap₂ (λ (s : Filter) (l : List Kind). inputsFor (statesIn longer) (from (s .track .x) (s .track .p) ∷ []) (s .sheet .q) (s .sheet .params) ++ turnInputs l) filter-same ks ∙ ap (λ (i : ℕ). inputsFor i (from (filterIn b .track .x) (filterIn b .track .p) ∷ []) (filterIn b .sheet .q) (filterIn b .sheet .params) ++ turnInputs (eachKind b kindAt)) states-same))
       refl
       (ap₂ (λ (s : Filter) (l : List Kind). by-params (statesIn longer) (s .sheet .params) ∷ asKinds l) filter-same ks ∙ ap (λ (i : ℕ). by-params i (filterIn b .sheet .params) ∷ asKinds (eachKind b kindAt)) states-same)
       ∙ ap (λ (t : Filter). guarded f (loadAsks b) (accepted t)) filter-same
-      ∙ sym (from-three f b h))
+      ∙ sym (past-three f b h))
 
 -- ---- a side of a pair
 
@@ -273,6 +272,9 @@ module _ (f : Format) where
   pub side-saved : (p : Pair) (w : Side) (out : List ℕ) → (pairStep f p w (reading (save out)) .reply ≡ step f (solo p w) (reading (save out)) .reply) × (pairStep f p w (reading (save out)) .pair ≡ p)
   side-saved p w out = (reply-is f p w (reading (save out)) ∙ ap (λ (t : Stepped). t .reply) (solo-is f p w (reading (save out)) refl), side-left p w out)
 
-  pub side-kept : {p : Pair} → PairYielded f p → (w : Side) → Storable (solo p w) → (out : List ℕ) → let a = pairStep f p w (reading (save out)) .reply in a .refusal .number ≡ 0 → let b = loadAnswer (over (a .bytes) out) f in (b .refusal ≡ taken) × Alike (solo p w) (b .filter)
+  pub side-kept : {p : Pair} → PairYielded f p → (w : Side) → Storable (solo p w) → (out : List ℕ) → let a = pairStep f p w (reading (save out)) .reply in a .refusal .number ≡ 0 → let b = loadAnswer f (over (a .bytes) out) in (b .refusal ≡ taken) × Alike (solo p w) (b .filter)
   side-kept {p} y w g out =
-      subst (λ (a : Reply). a .refusal .number ≡ 0 → let b = loadAnswer (over (a .bytes) out) f in (b .refusal ≡ taken) × Alike (solo p w) (b .filter)) (sym (side-saved p w out .0)) (kept f (side-yielded f y w) g out)
+      subst (λ (a : Reply). a .refusal .number ≡ 0 → let b = loadAnswer f (over (a .bytes) out) in (b .refusal ≡ taken) × Alike (solo p w) (b .filter)) (sym (side-saved p w out .0)) (kept f (side-yielded f y w) g out)
+
+  pub side-same : {p : Pair} → PairYielded f p → (w : Side) → Storable (solo p w) → (out : List ℕ) → let a = pairStep f p w (reading (save out)) .reply in a .refusal .number ≡ 0 → (cs : List Call) → told f (solo p w) cs ≡ told f (loadAnswer f (over (a .bytes) out) .filter) cs
+  side-same {p} y w g out z = nothing-left-over f (solo p w) _ (side-kept y w g out z .1)

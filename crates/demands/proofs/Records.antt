@@ -12,6 +12,7 @@ use Rattle.floats.specs.declared.Slice.the-variants.{State, Covariance, Noise, 
 use Rattle.floats.specs.Refusal.{FRESH, RECORD, verdict, taken}
 use Rattle.floats.specs.Numbers.{allFinite}
 use Rattle.floats.specs.Fronts.{over}
+use Rattle.floats.proofs.Refusals.{number-of}
 use Rattle.pieces.specs.Bytes.{AreBytes, numberAt, kindAt, readEach}
 use Rattle.sigma.specs.declared.Params.{Params}
 use Rattle.filter.specs.declared.Filter.{Filter}
@@ -19,19 +20,19 @@ use Rattle.filter.specs.Asked.{of-bytes, by-params}
 use Rattle.filter.specs.Filters.{isShut}
 use Rattle.filter.specs.Records.{numbersOf, bytesOf}
 use Rattle.filter.specs.Calls.{Call, reading, save, halves, asKinds, asks}
-use Rattle.filter.specs.Steps.{step}
+use Rattle.filter.specs.Steps.{Reply, step}
 use Rattle.filter.specs.Load.{turnInputs, isRecord, loadAsks, loadAnswer}
 use Rattle.pairs.specs.declared.Pair.{Pair}
 use Rattle.pairs.specs.declared.Side.{Side}
-use Rattle.pairs.specs.Pairs.{solo, pairStep}
+use Rattle.pairs.specs.Pairs.{trackAt, solo, pairStep}
 use Rattle.demands.specs.Runs.{told, Alike}
 use Rattle.demands.specs.Sound.{Yielded}
 use Rattle.demands.specs.PairSound.{PairYielded}
-use Rattle.demands.specs.Records.{Storable, Fed, BeforeFresh, BeforeRecord, NoRecord, refreshed, Reads}
+use Rattle.demands.specs.Records.{Storable, Fed, PairFed, BeforeFresh, BeforeRecord, NoRecord, refreshed, Reads}
 use Rattle.demands.proofs.Rows.{fails-where}
 use Rattle.demands.proofs.Saving.{no-record, fresh-exactly, saved-exactly, saved-as, record-exactly}
-use Rattle.demands.proofs.Fed.{fed-storable, fed-yielded}
-use Rattle.demands.proofs.Recorded.{lengthy, recorded-finite, restored, kept, same-answers, alike-bytes, asks-in, taken-reads, read-only, saved-again, saves-again, rest-unread, side-saved, side-kept}
+use Rattle.demands.proofs.Fed.{fed-storable, fed-yielded, side-fed, pair-fed-yielded}
+use Rattle.demands.proofs.Recorded.{lengthy, recorded-finite, restored, kept, same-answers, alike-bytes, asks-in, taken-reads, read-only, saved-again, saves-again, rest-unread, side-saved, side-kept, side-same}
 
 module _ (f : Format) where
   -- ---- the record (`bytesOf`, crates/filter/specs/Records.antt)
@@ -91,44 +92,44 @@ module _ (f : Format) where
   pub ill-formed-when : (b : List ℕ) → (isRecord b ≡ false) ↔ NoRecord b
   ill-formed-when b = (λ e. no-record b .fails e, λ w. fails-where (no-record b) w)
 
-  pub record-when : (b : List ℕ) → (loadAnswer b f .refusal ≡ verdict RECORD) ↔ (BeforeRecord b × NoRecord b)
+  pub record-when : (b : List ℕ) → (loadAnswer f b .refusal ≡ verdict RECORD) ↔ (BeforeRecord b × NoRecord b)
   record-when = record-exactly f
 
   -- What is taken is the filter that stands there, number by number and kind by kind, and else as New leaves a filter (`Reads`); and no other filter reads so, as `Reads` has an equation for each part of a filter.
-  pub read-as : (b : List ℕ) → loadAnswer b f .refusal .number ≡ 0 → Reads b (loadAnswer b f .filter)
+  pub read-as : (b : List ℕ) → loadAnswer f b .refusal .number ≡ 0 → Reads b (loadAnswer f b .filter)
   read-as b = taken-reads b f
 
-  pub nothing-else-is-read : (b : List ℕ) → loadAnswer b f .refusal .number ≡ 0 → (t : Filter) → Reads b t → t ≡ loadAnswer b f .filter
+  pub nothing-else-is-read : (b : List ℕ) → loadAnswer f b .refusal .number ≡ 0 → (t : Filter) → Reads b t → t ≡ loadAnswer f b .filter
   nothing-else-is-read b = read-only b f
 
   -- Bytes after a record are not read, be it taken or refused.
-  pub rest-is-unread : (b rest : List ℕ) → 27 + 17 * getD b 2 0 + 16 * (getD b 2 0 * getD b 2 0) ≤ length b → loadAnswer (b ++ rest) f ≡ loadAnswer b f
+  pub rest-is-unread : (b rest : List ℕ) → 27 + 17 * getD b 2 0 + 16 * (getD b 2 0 * getD b 2 0) ≤ length b → loadAnswer f (b ++ rest) ≡ loadAnswer f b
   rest-is-unread b rest h = rest-unread b rest (omega arith) h f
 
   -- ---- read, then saved (bytes of a program are bytes by their type)
 
   -- The record of what is read is the bytes that were read, and saving it into lent bytes that have room is taken and hands them out;
-  pub read-then-saved : (b : List ℕ) → loadAnswer b f .refusal .number ≡ 0 → AreBytes b → bytesOf (loadAnswer b f .filter) ≡ take (27 + 17 * getD b 2 0 + 16 * (getD b 2 0 * getD b 2 0)) b
+  pub read-then-saved : (b : List ℕ) → loadAnswer f b .refusal .number ≡ 0 → AreBytes b → bytesOf (loadAnswer f b .filter) ≡ take (27 + 17 * getD b 2 0 + 16 * (getD b 2 0 * getD b 2 0)) b
   read-then-saved b = saved-again b f
 
-  pub read-then-saves : (b : List ℕ) → loadAnswer b f .refusal .number ≡ 0 → AreBytes b → let k = 27 + 17 * getD b 2 0 + 16 * (getD b 2 0 * getD b 2 0) in (out : List ℕ) → k ≤ length out → step f (loadAnswer b f .filter) (reading (save out)) .reply ≡ record { refusal = taken; given = []; stale = true; bytes = take k b }
+  pub read-then-saves : (b : List ℕ) → loadAnswer f b .refusal .number ≡ 0 → AreBytes b → let k = 27 + 17 * getD b 2 0 + 16 * (getD b 2 0 * getD b 2 0) in (out : List ℕ) → k ≤ length out → step f (loadAnswer f b .filter) (reading (save out)) .reply ≡ record { refusal = taken; given = []; stale = true; bytes = take k b }
   read-then-saves b = saves-again b f
 
   -- so two lists of bytes that read as one filter hold one record.
-  pub one-record : (b c : List ℕ) → loadAnswer b f .refusal .number ≡ 0 → loadAnswer c f .refusal .number ≡ 0 → loadAnswer b f .filter ≡ loadAnswer c f .filter → AreBytes b → AreBytes c → take (27 + 17 * getD b 2 0 + 16 * (getD b 2 0 * getD b 2 0)) b ≡ take (27 + 17 * getD c 2 0 + 16 * (getD c 2 0 * getD c 2 0)) c
+  pub one-record : (b c : List ℕ) → loadAnswer f b .refusal .number ≡ 0 → loadAnswer f c .refusal .number ≡ 0 → loadAnswer f b .filter ≡ loadAnswer f c .filter → AreBytes b → AreBytes c → take (27 + 17 * getD b 2 0 + 16 * (getD b 2 0 * getD b 2 0)) b ≡ take (27 + 17 * getD c 2 0 + 16 * (getD c 2 0 * getD c 2 0)) c
   one-record b c d e t h k = sym (read-then-saved b d h) ∙ ap bytesOf t ∙ read-then-saved c e k
 
   -- ---- saved, then read
 
-  -- A filter that the demands speak of, its numbers values that an f64 has (`Storable`), saved into any lent bytes and then read from them, is taken, and has its sheet, x and P, and else what New leaves (`refreshed`). So it is alike to the original,
-  pub saved-then-read : {s : Filter} → Yielded f s → Storable s → (out : List ℕ) → let a = step f s (reading (save out)) .reply in a .refusal .number ≡ 0 → loadAnswer (over (a .bytes) out) f ≡ record { filter = refreshed s; refusal = taken }
+  -- A filter that the demands speak of, its numbers values that an f64 has (`Storable`), saved into lent bytes and then read from them, is taken, and has its sheet, x and P, and else what New leaves (`refreshed`). So it is alike to the original,
+  pub saved-then-read : {s : Filter} → Yielded f s → Storable s → (out : List ℕ) → let a = step f s (reading (save out)) .reply in a .refusal .number ≡ 0 → loadAnswer f (over (a .bytes) out) ≡ record { filter = refreshed s; refusal = taken }
   saved-then-read = restored f
 
-  pub alike-to-the-original : {s : Filter} → Yielded f s → Storable s → (out : List ℕ) → let a = step f s (reading (save out)) .reply in a .refusal .number ≡ 0 → let b = loadAnswer (over (a .bytes) out) f in (b .refusal ≡ taken) × Alike s (b .filter)
+  pub alike-to-the-original : {s : Filter} → Yielded f s → Storable s → (out : List ℕ) → let a = step f s (reading (save out)) .reply in a .refusal .number ≡ 0 → let b = loadAnswer f (over (a .bytes) out) in (b .refusal ≡ taken) × Alike s (b .filter)
   alike-to-the-original = kept f
 
   -- and answers every later call as the original does, refused ones and saves included (`same-told` in Demand3).
-  pub answers-as-the-original : {s : Filter} → Yielded f s → Storable s → (out : List ℕ) → let a = step f s (reading (save out)) .reply in a .refusal .number ≡ 0 → (cs : List Call) → told f s cs ≡ told f (loadAnswer (over (a .bytes) out) f .filter) cs
+  pub answers-as-the-original : {s : Filter} → Yielded f s → Storable s → (out : List ℕ) → let a = step f s (reading (save out)) .reply in a .refusal .number ≡ 0 → (cs : List Call) → told f s cs ≡ told f (loadAnswer f (over (a .bytes) out) .filter) cs
   answers-as-the-original = same-answers f
 
   -- ---- nothing left over: alike filters have the same record. (That saving them tells the same, after any same calls, is `same-told` in Demand3.)
@@ -142,14 +143,30 @@ module _ (f : Format) where
   pub side-saves : (p : Pair) (w : Side) (out : List ℕ) → (pairStep f p w (reading (save out)) .reply ≡ step f (solo p w) (reading (save out)) .reply) × (pairStep f p w (reading (save out)) .pair ≡ p)
   side-saves = side-saved f
 
-  pub side-saved-then-read : {p : Pair} → PairYielded f p → (w : Side) → Storable (solo p w) → (out : List ℕ) → let a = pairStep f p w (reading (save out)) .reply in a .refusal .number ≡ 0 → let b = loadAnswer (over (a .bytes) out) f in (b .refusal ≡ taken) × Alike (solo p w) (b .filter)
+  pub side-saved-then-read : {p : Pair} → PairYielded f p → (w : Side) → Storable (solo p w) → (out : List ℕ) → let a = pairStep f p w (reading (save out)) .reply in a .refusal .number ≡ 0 → let b = loadAnswer f (over (a .bytes) out) in (b .refusal ≡ taken) × Alike (solo p w) (b .filter)
   side-saved-then-read = side-kept f
 
--- ---- of a filter `Storable` is no more than the code's types give (of a side it stays a premise): where New and the calls are lent an f64's numbers (`Fed`), the numbers of a filter are an f64's after New, after load and after every call;
+  pub side-answers-as-the-original : {p : Pair} → PairYielded f p → (w : Side) → Storable (solo p w) → (out : List ℕ) → let a = pairStep f p w (reading (save out)) .reply in a .refusal .number ≡ 0 → (cs : List Call) → told f (solo p w) cs ≡ told f (loadAnswer f (over (a .bytes) out) .filter) cs
+  side-answers-as-the-original = side-same f
+
+-- ---- `Storable` is no more than the code's types give: where New and the calls are lent an f64's numbers (`Fed`, `PairFed`), the numbers of a filter are an f64's after New, after load and after every call, and so are those of each side of a pair;
 
 pub numbers-stay : {s : Filter} → Fed s → Storable s × Yielded binary64 s
 numbers-stay y = (fed-storable y, fed-yielded y)
 
--- so such a filter, stale and with nothing open, saved and read, answers every later call as the original does.
-pub fed-answers-as-the-original : {s : Filter} → Fed s → (out : List ℕ) → let a = step binary64 s (reading (save out)) .reply in a .refusal .number ≡ 0 → (cs : List Call) → told binary64 s cs ≡ told binary64 (loadAnswer (over (a .bytes) out) binary64 .filter) cs
+pub side-numbers-stay : {p : Pair} → PairFed p → ((w : Side) → Storable (solo p w)) × PairYielded binary64 p
+side-numbers-stay y = (λ w. fed-storable (side-fed y w), pair-fed-yielded y)
+
+-- so such a filter, stale and with nothing open, is saved into lent bytes that have room (`BeforeFresh`) and read back alike, and such a side as the filter that it is by itself;
+pub fed-saved-then-read : {s : Filter} → Fed s → (out : List ℕ) → BeforeFresh s out → s .track .stale ≡ true → let a = step binary64 s (reading (save out)) .reply in let b = loadAnswer binary64 (over (a .bytes) out) in (a .refusal ≡ taken) × (b .refusal ≡ taken) × Alike s (b .filter)
+fed-saved-then-read {s} y out h t = let e = saved-when binary64 s out .1 (h, t) in let k = kept binary64 (fed-yielded y) (fed-storable y) out (number-of e) in (e, k .0, k .1)
+
+pub fed-side-saved-then-read : {p : Pair} → PairFed p → (w : Side) (out : List ℕ) → BeforeFresh (solo p w) out → trackAt p w .stale ≡ true → let a = pairStep binary64 p w (reading (save out)) .reply in let b = loadAnswer binary64 (over (a .bytes) out) in (a .refusal ≡ taken) × (b .refusal ≡ taken) × Alike (solo p w) (b .filter)
+fed-side-saved-then-read {p} y w out h t = let e = ap (λ (r : Reply). r .refusal) (side-saves binary64 p w out .0) ∙ saved-when binary64 (solo p w) out .1 (h, t) in let k = side-kept binary64 (pair-fed-yielded y) w (fed-storable (side-fed y w)) out (number-of e) in (e, k .0, k .1)
+
+-- and what is read answers every later call as the original does.
+pub fed-answers-as-the-original : {s : Filter} → Fed s → (out : List ℕ) → let a = step binary64 s (reading (save out)) .reply in a .refusal .number ≡ 0 → (cs : List Call) → told binary64 s cs ≡ told binary64 (loadAnswer binary64 (over (a .bytes) out) .filter) cs
 fed-answers-as-the-original y = same-answers binary64 (fed-yielded y) (fed-storable y)
+
+pub fed-side-answers-as-the-original : {p : Pair} → PairFed p → (w : Side) (out : List ℕ) → let a = pairStep binary64 p w (reading (save out)) .reply in a .refusal .number ≡ 0 → (cs : List Call) → told binary64 (solo p w) cs ≡ told binary64 (loadAnswer binary64 (over (a .bytes) out) .filter) cs
+fed-side-answers-as-the-original y w = side-same binary64 (pair-fed-yielded y) w (fed-storable (side-fed y w))

@@ -2,7 +2,7 @@
 use Prim.Native.Nat.{ℕ, zero, suc, _+_, _-_, _*_, _/_, _%_, _≤_, _<_}
 use mathlib.Core.Path.{_≡_, refl, sym, ap, ap₂, _∙_, subst}
 use mathlib.Core.Bool.{Bool, true, false, _&&_, cond}
-use mathlib.Core.List.{List, [], _∷_, _++_, map, append-assoc}
+use mathlib.Core.List.{List, [], _∷_, _++_, append-assoc}
 use native.Mathlib.Omega.{arith}
 use borrow.Author.Tests.{le-leb, leb-true, eqb-true}
 use lib.Dec.{leb, eqb}
@@ -82,14 +82,10 @@ every-back t k l h = and-right (every t (take k l)) _ (sym (every-append t (take
 pub every-both : {A : Type 0} (t : A → Bool) (l r : List A) → every t l ≡ true → every t r ≡ true → every t (l ++ r) ≡ true
 every-both t l r h k = every-append t l r ∙ ap₂ (λ (a b : Bool). a && b) h k
 
-all-of : {A : Type 0} (t : A → Bool) (l : List A) → allTrue (map t l) ≡ every t l
-all-of t [] = refl
-all-of t (a ∷ l) = ap (λ (b : Bool). t a && b) (all-of t l)
-
 -- from three bytes on load is what is asked of a record
-pub from-three : (f : Format) (b : List ℕ) → 3 ≤ length b → loadOf b f ≡ guarded f (loadAsks b) (accepted (filterIn b))
+pub past-three : (f : Format) (b : List ℕ) → 3 ≤ length b → loadOf f b ≡ guarded f (loadAsks b) (accepted (filterIn b))
 unfolding loadOf
-from-three f b h = rw (le-leb 3 (length b) h)
+past-three f b h = rw (le-leb 3 (length b) h)
 
 -- ---- SAVED, THEN READ
 
@@ -149,14 +145,13 @@ module _ (f : Format) (s : Filter) (h : Sound f s) where
     unfolding bytesOf
     whole-is = ap (λ (l : List ℕ). 87 ∷ 80 ∷ n ∷ l) (append-assoc (written numberBytes (numbersOf s)) (written kindBytes kinds) rest)
 
-    numbers-fit : allTrue (map (fits binary64) (numbersOf s)) ≡ true
+    numbers-fit : every (fits binary64) (numbersOf s) ≡ true
     numbers-fit =
         let t = fits binary64 in
-        all-of t (numbersOf s)
-        ∙ every-both t (take n (s .track .x)) _ (every-front t n (s .track .x) (g .x)) (every-both t (take (n * n) (s .track .p)) _ (every-front t (n * n) (s .track .p) (g .p)) (every-both t (take (n * n) (s .sheet .q)) _ (every-front t (n * n) (s .sheet .q) (g .q)) (g .params)))
+        every-both t (take n (s .track .x)) _ (every-front t n (s .track .x) (g .x)) (every-both t (take (n * n) (s .track .p)) _ (every-front t (n * n) (s .track .p) (g .p)) (every-both t (take (n * n) (s .sheet .q)) _ (every-front t (n * n) (s .sheet .q) (g .q)) (g .params)))
 
-    kinds-fit : allTrue (map kindFits kinds) ≡ true
-    kinds-fit = all-of kindFits kinds ∙ every-front kindFits n (s .sheet .kinds) (g .kinds)
+    kinds-fit : every kindFits kinds ≡ true
+    kinds-fit = every-front kindFits n (s .sheet .kinds) (g .kinds)
 
     numbers-back : numbersIn whole ≡ numbersOf s
     numbers-back =
@@ -193,10 +188,10 @@ module _ (f : Format) (s : Filter) (h : Sound f s) where
     long-enough = omega (arith, length-append (written numberBytes (numbersOf s)) (written kindBytes kinds ++ rest), length-append (written kindBytes kinds) rest, length-numbers, length-turns)
 
     -- A record, whatever follows it, is read as the filter that it was written from, with points, weights and scratch as New leaves them.
-    pub read-back : loadOf (bytesOf s ++ rest) f ≡ accepted (refreshed s)
+    pub read-back : loadOf f (bytesOf s ++ rest) ≡ accepted (refreshed s)
     unfolding inRange
     read-back =
-        ap (λ (b : List ℕ). loadOf b f) whole-is ∙ from-three f whole (omega arith)
+        ap (loadOf f) whole-is ∙ past-three f whole (omega arith)
         ∙ passes f (loadAsks whole) (accepted (filterIn whole)) refl
         (rw (le-leb 1 n one, le-leb n 8 (h .small)))
         (rw (le-leb (recordLength n) (length whole) long-enough))
@@ -254,7 +249,7 @@ module _ (b : List ℕ) where
     pub is : filterIn b ≡ t
 
   module _ (f : Format) (t : Filter) where
-    pub took : loadOf b f ≡ accepted t → Took f t
+    pub took : loadOf f b ≡ accepted t → Took f t
     unfolding loadOf
     took e =
         let p = passed (leb 3 (length b)) SHORT _ t e in

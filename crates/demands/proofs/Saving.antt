@@ -2,16 +2,16 @@
 use Prim.Native.Nat.{ℕ, zero, suc, _+_, _*_, _<_, _≤_}
 use mathlib.Core.Path.{_≡_, refl, sym, ap, _∙_, subst}
 use mathlib.Core.Bool.{Bool, true, false, not, _&&_}
-use mathlib.Core.List.{List, []}
+use mathlib.Core.List.{List, [], _∷_}
 use mathlib.Core.Logic.{_↔_, _≢_, inl, inr, ⊎-elim}
 use native.Mathlib.Omega.{arith}
-use borrow.Author.Tests.{eqb-true, eqb-false, leb-true, le-leb}
+use borrow.Author.Tests.{eq-eqb, ne-eqb, eqb-true, eqb-false, leb-true, le-leb}
 use lib.Dec.{eqb}
-use lib.ListN.{length, drop, getD}
+use lib.ListN.{length, take, drop, getD}
 use lib.Ieee.{Format}
 use Rattle.floats.specs.Refusal.{FRESH, RECORD, verdict, taken}
 use Rattle.floats.proofs.Refusals.{number, slice-above}
-use Rattle.pieces.specs.Bytes.{readEach, allTrue, formed}
+use Rattle.pieces.specs.Bytes.{wordOf, readEach, allTrue, formed}
 use Rattle.filter.specs.declared.Filter.{Filter}
 use Rattle.filter.specs.Asked.{within, long, every}
 use Rattle.filter.specs.Filters.{seen}
@@ -36,12 +36,30 @@ use Rattle.demands.proofs.Accepted.{taken-step}
 equal : (a b : ℕ) → Means (eqb a b) (a ≢ b)
 equal a b = record { fails = λ h. eqb-false a b h; passes = λ h n. n (eqb-true a b h) }
 
+-- what bytes come to is zero where each of them is
+zero-sum : (c w : ℕ) → eqb (c + 256 * w) 0 ≡ (eqb c 0 && eqb w 0)
+zero-sum c w = go (eqb c 0) (eqb w 0) refl refl
+  where
+    go : (s t : Bool) → eqb c 0 ≡ s → eqb w 0 ≡ t → eqb (c + 256 * w) 0 ≡ (s && t)
+    go true true d e = eq-eqb (c + 256 * w) 0 (omega (arith, eqb-true c 0 d, eqb-true w 0 e))
+    go true false d e = ne-eqb (c + 256 * w) 0 (λ (h : c + 256 * w ≡ 0). eqb-false w 0 e (omega (arith, h)))
+    go false t d e = ne-eqb (c + 256 * w) 0 (λ (h : c + 256 * w ≡ 0). eqb-false c 0 d (omega (arith, h)))
+
+each-zero : (k : ℕ) (b : List ℕ) → every (λ (i : ℕ). eqb i 0) (take k b) ≡ eqb (wordOf k b) 0
+unfolding wordOf
+each-zero zero b = refl
+each-zero (suc k) [] = refl
+each-zero (suc k) (c ∷ b) = ap (λ (t : Bool). eqb c 0 && t) (each-zero k b) ∙ sym (zero-sum c (wordOf k b))
+
+no-zero : (k : ℕ) (b : List ℕ) → Means (eqb (wordOf k b) 0) (Some (λ (i : ℕ). i ≢ 0) (take k b))
+no-zero k b = subst (λ (t : Bool). Means t (Some (λ (i : ℕ). i ≢ 0) (take k b))) (each-zero k b) (some (λ (i : ℕ). eqb i 0) (λ (i : ℕ). i ≢ 0) (λ i. equal i 0) (take k b))
+
 ill-formed : (c : List ℕ) → Means (formed c) (IllFormed c)
 unfolding formed
 ill-formed c = go (eqb (getD c 0 0) 0) refl
   where
     go : (t : Bool) → eqb (getD c 0 0) 0 ≡ t → Means (formed c) (IllFormed c)
-    go true e = let z = eqb-true (getD c 0 0) 0 e in rw e (record { fails = λ h. inr (z, eqb-false _ _ h); passes = λ h. ⊎-elim (λ w. w .0 z) (λ w. w .1 (eqb-true _ _ h)) })
+    go true e = let z = eqb-true (getD c 0 0) 0 e in let m = no-zero 8 (drop 1 c) in rw e (record { fails = λ h. inr (z, m .fails h); passes = λ h. ⊎-elim (λ w. w .0 z) (λ w. m .passes h (w .1)) })
     go false e = let n = eqb-false (getD c 0 0) 0 e in rw e (record { fails = λ h. inl (n, eqb-false _ _ h); passes = λ h. ⊎-elim (λ w. w .1 (eqb-true _ _ h)) (λ w. n (w .0)) })
 
 each-of : (t : List ℕ → Bool) (k : ℕ) (c : List ℕ) → every t (readEach 9 (λ (d : List ℕ). d) k c) ≡ allTrue (readEach 9 t k c)
@@ -94,7 +112,7 @@ module _ (f : Format) (b : List ℕ) where
       go (met r) e x n = absurd (no-first r x)
 
   -- 12 exactly when nothing comes before it and the bytes are no record
-  pub record-exactly : (loadAnswer b f .refusal ≡ verdict RECORD) ↔ (BeforeRecord b × NoRecord b)
+  pub record-exactly : (loadAnswer f b .refusal ≡ verdict RECORD) ↔ (BeforeRecord b × NoRecord b)
   record-exactly = (
     λ e. ⊎-elim (λ w. absurd (omega (arith, ap number (w .1)))) (λ w. due-12 (w .0) (w .1)) (load-exactly f b RECORD .0 e),
     λ h. load-exactly f b RECORD .1 (inr (h .0 .three, record { cause = form; gives-it = refl; applies = fails-where (no-record b) (h .1); no-earlier = none-before-12 (h .0) })),

@@ -160,7 +160,7 @@ module _ (f : Format) where
           kept = λ e. absurd (two-ways e refl);
         }
 
-    pub load-cases : (P : Filter → Type 0) → P empty → (Passed f (loadAsks b) → P (filterIn b)) → P (loadAnswer b f .filter)
+    pub load-cases : (P : Filter → Type 0) → P empty → (Passed f (loadAsks b) → P (filterIn b)) → P (loadAnswer f b .filter)
     unfolding loadOf
     load-cases P e h = go (leb 3 (length b)) (guarded f (loadAsks b) (accepted (filterIn b))) (by-cases (λ o. P (or empty o)) (λ r. e) f (loadAsks b) _ h)
       where
@@ -168,10 +168,10 @@ module _ (f : Format) where
         go true o k = k
         go false o k = e
 
-    pub load-sound : Sound f (loadAnswer b f .filter)
+    pub load-sound : Sound f (loadAnswer f b .filter)
     load-sound = load-cases (Sound f) empty-sound taken-sound
 
-    pub load-tidy : Tidy (loadAnswer b f .filter)
+    pub load-tidy : Tidy (loadAnswer f b .filter)
     load-tidy = load-cases Tidy (fresh-tidy _ _ _) (λ h. fresh-tidy _ _ _)
 
   -- ---- changes

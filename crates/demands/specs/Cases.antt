@@ -24,7 +24,7 @@ use Rattle.sigma.specs.Weights.{lambdaOf, scaleOf, w0mOf, w0cOf, wiOf, weightsO
 use Rattle.sigma.specs.Mean.{meanOf}
 use Rattle.correction.specs.Correct.{Head, given, weightedHead}
 use Rattle.filter.specs.declared.Filter.{Filter}
-use Rattle.filter.specs.Calls.{Call, writing, setting, stepping, closing, closing-stepped, abandon, reading, set-x, set-p, set-q, set-params, set-kind, open-prediction, open-correction, open-prediction-stepped, open-correction-stepped, ask, image-prediction, image-correction, close-prediction, close-correction, close-correction-flat, close-prediction-stepped, close-correction-stepped, close-correction-flat-stepped, read-q, read-points, read-stale, save}
+use Rattle.filter.specs.Calls.{Call, writing, setting, stepping, closing, closing-stepped, abandon, reading, set-x, set-p, set-q, set-params, set-kind, open-prediction, open-correction, open-prediction-stepped, open-correction-stepped, ask, image-prediction, image-correction, close-prediction, close-correction, close-correction-flat, close-prediction-stepped, close-correction-stepped, close-correction-flat-stepped, read-q, read-points, read-stale, save, valuesOf, halves}
 use Rattle.filter.specs.Records.{bytesOf}
 use Rattle.filter.specs.New.{newAnswer}
 use Rattle.filter.specs.Load.{loadAnswer}
@@ -636,7 +636,7 @@ pairCases =
     ∷ ("A5 New of a pair, beta before kappa", newPairIs 2 fine fine fine fine fine (params (int 1) nan nan) 56 1)
     ∷ (against pairStory (map (λ t. t .told) (pairTold binary64 both (map (λ e. e .1 .0) pairStory))) ++ against sidesStory (map (λ t. t .told) (pairTold binary64 bothOfTwo (map (λ e. e .1 .0) sidesStory))))
 
--- ---- A8: records of one state, byte by byte. A number whose bits are zero but for the highest two bytes: 2 is 40 00 (hex), 4 is 40 10, 1 is 3f f0, −1 is bf f0, NaN is 7f f8, −0 is 80 00
+-- ---- A8: records of one state and of two, byte by byte. A number whose bits are zero but for the highest two bytes: 2 is 40 00 (hex), 4 is 40 10, 1 is 3f f0, −1 is bf f0, NaN is 7f f8, −0 is 80 00
 
 abbrev pub eight : ℕ → ℕ → List ℕ
 eight second first = 0 ∷ 0 ∷ 0 ∷ 0 ∷ 0 ∷ 0 ∷ second ∷ first ∷ []
@@ -665,6 +665,12 @@ turnBytes = 1 ∷ 0 ∷ 0 ∷ 0 ∷ 0 ∷ 0 ∷ 128 ∷ 102 ∷ 64 ∷ []
 abbrev pub firstBytes : List ℕ → List ℕ
 firstBytes kind = bytesWith (eight 0 64) (eight 16 64) one one none none kind
 
+-- two states, the second a turn: x = (40 09 21 fb 54 44 2d 18, 2), P = (4, 2; 1, 0), Q = (1, 0; 2, 4), parameters 1, 0, 0
+abbrev pub twoBytes : List ℕ
+twoBytes =
+    87 ∷ 80 ∷ 2 ∷ 24 ∷ 45 ∷ 68 ∷ 84 ∷ 251 ∷ 33 ∷ 9 ∷ 64 ∷ eight 0 64
+    ++ (eight 16 64 ++ (eight 0 64 ++ (one ++ (none ++ (one ++ (none ++ (eight 0 64 ++ (eight 16 64 ++ (one ++ (none ++ (none ++ (plainBytes ++ turnBytes))))))))))))
+
 -- what a save tells: its number and the bytes handed out
 abbrev pub saving : ℕ → List ℕ → Float → Float → Bool → Told
 saving number bytes x p stale = record { reply = record { refusal = placeless number; given = []; stale = true; bytes = bytes }; x = x ∷ []; p = p ∷ []; stale = stale }
@@ -689,13 +695,17 @@ recordStory =
 
 -- what bytes read as: the number and the place; taken, the record of what is read
 abbrev pub loadIs : List ℕ → ℕ → ℕ → Bool
-loadIs b number place = says (loadAnswer b binary64 .refusal) number place
+loadIs b number place = says (loadAnswer binary64 b .refusal) number place
 
 abbrev pub loadCases : List (String × Bool)
 loadCases =
     let x = eight 0 64 in
     let p = eight 16 64 in
-    ("A8 read", loadIs (firstBytes turnBytes) 0 0 && sameBytes (bytesOf (loadAnswer (firstBytes turnBytes) binary64 .filter)) (firstBytes turnBytes))
+    let read = loadAnswer binary64 twoBytes .filter in
+    ("A8 read", loadIs (firstBytes turnBytes) 0 0 && sameBytes (bytesOf (loadAnswer binary64 (firstBytes turnBytes) .filter)) (firstBytes turnBytes))
+    ∷ ("A8 two states", loadIs twoBytes 0 0 && (sameBytes (bytesOf read) twoBytes && (take 2 (read .track .x) are (ofBits binary64 4614256656552045848 ∷ int 2 ∷ []))))
+    ∷ ("A8 two states, P and Q", (take 4 (read .track .p) are four (int 4) (int 2) (int 1) (int 0)) && (take 4 (read .sheet .q) are four (int 1) (int 0) (int 2) (int 4)))
+    ∷ ("A8 two states, parameters and kinds", (valuesOf (read .sheet .params) are (int 1 ∷ int 0 ∷ int 0 ∷ [])) && (halves (take 2 (read .sheet .kinds)) are (int 0 ∷ int 180 ∷ [])))
     ∷ ("A8 read from more", loadIs (firstBytes plainBytes ++ (7 ∷ [])) 0 0)
     ∷ ("A8 no bytes", loadIs [] 2 0)
     ∷ ("A8 two bytes", loadIs (87 ∷ 80 ∷ []) 2 0)
@@ -704,6 +714,7 @@ loadCases =
     ∷ ("A8 cut before the mark", loadIs (0 ∷ 0 ∷ 1 ∷ []) 2 0)
     ∷ ("A8 one byte short", loadIs (take 59 (firstBytes plainBytes)) 2 0)
     ∷ ("A8 a wrong mark before a number", loadIs (87 ∷ 81 ∷ drop 2 (bytesWith noNumber p one one none none plainBytes)) 12 0)
+    ∷ ("A8 the first byte of the mark", loadIs (80 ∷ drop 1 (firstBytes plainBytes)) 12 0)
     ∷ ("A8 kind byte 2", loadIs (firstBytes (2 ∷ none)) 12 0)
     ∷ ("A8 plain with −0", loadIs (firstBytes (0 ∷ eight 0 128)) 12 0)
     ∷ ("A8 x before P", loadIs (bytesWith noNumber noNumber one one none none plainBytes) 51 0)
@@ -719,7 +730,7 @@ loadCases =
 abbrev pub recordCases : List (String × Bool)
 recordCases =
     against recordStory (told binary64 (at-first binary64) (map (λ e. e .1 .0) recordStory))
-    ++ (loadCases ++ against story (told binary64 (loadAnswer (firstBytes plainBytes) binary64 .filter) (map (λ e. e .1 .0) story)))
+    ++ (loadCases ++ against story (told binary64 (loadAnswer binary64 (firstBytes plainBytes) .filter) (map (λ e. e .1 .0) story)))
 
 -- by width
 abbrev pub cases : List (String × List (String × Bool))

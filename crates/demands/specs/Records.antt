@@ -4,13 +4,13 @@ use mathlib.Core.Path.{_≡_}
 use mathlib.Core.Bool.{true}
 use mathlib.Core.List.{List}
 use mathlib.Core.Logic.{_⊎_, _≢_}
-use lib.ListN.{length, drop, getD, replicate}
+use lib.ListN.{length, take, drop, getD, replicate}
 use lib.Ieee.{Float, binary64, fits}
 use Rattle.floats.specs.Numbers.{zeros}
 use Rattle.floats.specs.Fronts.{over}
 use Rattle.angles.specs.Kinds.{plain}
 use Rattle.angles.specs.declared.Kind.{Kind}
-use Rattle.pieces.specs.Bytes.{numberAt, kindAt, wordOf, readEach, kindFits}
+use Rattle.pieces.specs.Bytes.{numberAt, kindAt, readEach, kindFits}
 use Rattle.sigma.specs.declared.Params.{Params}
 use Rattle.filter.specs.declared.Filter.{Filter}
 use Rattle.filter.specs.Asked.{every}
@@ -19,8 +19,13 @@ use Rattle.filter.specs.Calls.{Call, writing, setting, stepping, closing, closi
 use Rattle.filter.specs.Steps.{step}
 use Rattle.filter.specs.New.{freshTrack, newAnswer}
 use Rattle.filter.specs.Load.{loadAnswer}
+use Rattle.pairs.specs.declared.Pair.{Pair}
+use Rattle.pairs.specs.declared.Side.{Side}
+use Rattle.pairs.specs.Pairs.{trackAt, pairStep}
+use Rattle.pairs.specs.NewPair.{newPairAnswer}
 use Rattle.demands.specs.Rows.{Some}
 use Rattle.demands.specs.Runs.{Alike}
+use Rattle.demands.specs.PairSound.{AtWill}
 
 -- ---- numbers of an f64
 
@@ -31,7 +36,7 @@ Fit l = every (fits binary64) l ≡ true
 abbrev pub FitKinds : List Kind → Type 0
 FitKinds l = every kindFits l ≡ true
 
--- of a filter, those that count
+-- of a filter, those of its sheet, its state and its covariance
 pub record Storable (s : Filter) : Type 0 where
   pub x : Fit (s .track .x)
   pub p : Fit (s .track .p)
@@ -65,9 +70,15 @@ FitCall (reading c) = Unit {0}
 -- the filters that the demands speak of (`Yielded`), where New and the calls are lent an f64's numbers, as every program's are by their type
 pub data Fed : Filter → Type 0 where
   fed-new : (n : ℕ) (x p q : List Float) (params : Params) → Fit x → Fit p → Fit q → Fit (valuesOf params) → Fed (newAnswer binary64 n x p q params .filter)
-  fed-load : (b : List ℕ) → Fed (loadAnswer b binary64 .filter)
+  fed-load : (b : List ℕ) → Fed (loadAnswer binary64 b .filter)
   fed-call : {s : Filter} → Fed s → (c : Call) → FitCall c → Fed (step binary64 s c .filter)
   fed-at-will : {s : Filter} (t : Filter) → Fed s → Alike s t → Fed t
+
+-- and such pairs (`PairYielded`)
+pub data PairFed : Pair → Type 0 where
+  pair-fed-new : (n : ℕ) (x₁ p₁ x₂ p₂ q : List Float) (params : Params) → Fit x₁ → Fit p₁ → Fit x₂ → Fit p₂ → Fit q → Fit (valuesOf params) → PairFed (newPairAnswer binary64 n x₁ p₁ x₂ p₂ q params .pair)
+  pair-fed-call : {p : Pair} → PairFed p → (w : Side) (c : Call) → FitCall c → PairFed (pairStep binary64 p w c .pair)
+  pair-fed-at-will : {p : Pair} (q : Pair) → PairFed p → p .sheet ≡ q .sheet → ((w : Side) → AtWill (trackAt p w) (trackAt q w)) → PairFed q
 
 -- ---- save and load
 
@@ -85,7 +96,7 @@ pub record BeforeRecord (b : List ℕ) : Type 0 where
 
 -- 12, of a kind's bytes, from its first on: kind byte not 0 or 1, or plain with h bytes not zero
 abbrev pub IllFormed : List ℕ → Type 0
-IllFormed c = ((getD c 0 0 ≢ 0) × (getD c 0 0 ≢ 1)) ⊎ ((getD c 0 0 ≡ 0) × (wordOf 8 (drop 1 c) ≢ 0))
+IllFormed c = ((getD c 0 0 ≢ 0) × (getD c 0 0 ≢ 1)) ⊎ ((getD c 0 0 ≡ 0) × Some (λ (i : ℕ). i ≢ 0) (take 8 (drop 1 c)))
 
 -- of the whole: wrong mark (57 50 hex are 87 and 80), or a kind that is ill-formed
 abbrev pub NoRecord : List ℕ → Type 0

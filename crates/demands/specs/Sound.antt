@@ -83,13 +83,13 @@ module _ (f : Format) where
   -- the filters that New, load and later calls yield
   pub data Reached : Filter → Type 0 where
     made : (n : ℕ) (x p q : List Float) (params : Params) → Reached (newAnswer f n x p q params .filter)
-    read : (b : List ℕ) → Reached (loadAnswer b f .filter)
+    read : (b : List ℕ) → Reached (loadAnswer f b .filter)
     further : {s : Filter} → Reached s → (c : Call) → Reached (step f s c .filter)
 
   -- the filters that the demands speak of: those, and such filters, stale and with no call open, with points, weights and scratch put at will
   pub data Yielded : Filter → Type 0 where
     fresh-made : (n : ℕ) (x p q : List Float) (params : Params) → Yielded (newAnswer f n x p q params .filter)
-    loaded : (b : List ℕ) → Yielded (loadAnswer b f .filter)
+    loaded : (b : List ℕ) → Yielded (loadAnswer f b .filter)
     stepped-on : {s : Filter} → Yielded s → (c : Call) → Yielded (step f s c .filter)
     put-at-will : {s : Filter} (t : Filter) → Yielded s → Alike s t → Yielded t
 

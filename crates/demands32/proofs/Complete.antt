@@ -77,6 +77,8 @@ use Rattle.filter32.proofs.new.empty_sheet.Kinds as empty-sheet-of
 use Rattle.filter32.proofs.new.empty_sheet.Reads as empty-sheet
 use Rattle.filter32.proofs.new.empty_track.Kinds as empty-track-of
 use Rattle.filter32.proofs.new.empty_track.Reads as empty-track
+use Rattle.filter32.proofs.new.refused.Kinds as refused-of
+use Rattle.filter32.proofs.new.refused.Reads as refused
 use Rattle.filter32.proofs.Filter.new.Kinds as new-of
 use Rattle.filter32.proofs.Filter.new.Reads as new
 use Rattle.filter32.proofs.Filter.set_x.Kinds as set-x-of
@@ -238,6 +240,9 @@ empty-sheet-one κs a z z′ w w′ p q = (one-sheet z z′ (by p q), refl)
 
 pub empty-track-one : OneAnswer empty-track-of.ps empty-track-of.r empty-track.Learnt
 empty-track-one κs a z z′ w w′ p q = (one-track (by p q), refl)
+
+pub refused-one : OneAnswer refused-of.ps refused-of.r refused.Learnt
+refused-one κs a z z′ w w′ p q = (one-answer z z′ (by p q), refl)
 
 pub new-one : OneAnswer new-of.ps new-of.r new.Learnt
 new-one κs a z z′ w w′ p q = (one-answer z z′ (by p q), refl)

@@ -8,6 +8,7 @@ use lib.Ieee.{Float, Format}
 use Rattle.floats.specs.declared.Verdict.{Verdict}
 use Rattle.floats.specs.Refusal.{SIZE, SHORT, STAGE, RECORD, STALE, FRESH, KIND, PARAM, Outcome, refusal, unless, onward, nothing}
 use Rattle.floats.specs.Search.{Input, searched}
+pub use Rattle.floats.specs.Tests.{every}
 use Rattle.angles.specs.Kinds.{isPlain, passes}
 use Rattle.angles.specs.declared.Kind.{Kind}
 use Rattle.sigma.specs.Weights.{weightsPass}
@@ -64,10 +65,6 @@ passing f k = passes f (k .residual)
 abbrev pub fit : Format → Param → Bool
 fit f (by-params n p) = weightsPass f n p
 fit f (by-kind k) = passing f k
-
-abbrev pub every : {A : Type 0} → (A → Bool) → List A → Bool
-every t [] = true
-every t (x ∷ l) = t x && every t l
 
 -- ---- the order: 3, 1, 2, 12, 4, 11, what the search comes to (51 to 56), 10, 6, then what the steps o come to (7, 8 and 9 as they meet them, and 56 for an N without a root)
 

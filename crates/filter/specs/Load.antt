@@ -73,10 +73,11 @@ module _ (b : List ℕ) where
         params = by-params n (s .sheet .params) ∷ asKinds (eachKind kindAt);
       }
 
+module _ (f : Format) (b : List ℕ) where
   -- under three bytes there is no n to ask for
-  unfoldable pub loadOf : Format → Outcome Filter
+  unfoldable pub loadOf : Outcome Filter
   unfolding guarded readEach
-  loadOf f = unless (leb 3 (length b)) SHORT (guarded f loadAsks (accepted filterIn))
+  loadOf = unless (leb 3 (length b)) SHORT (guarded f (loadAsks b) (accepted (filterIn b)))
 
-  abbrev pub loadAnswer : Format → Answer
-  loadAnswer f = answerOf (loadOf f)
+  abbrev pub loadAnswer : Answer
+  loadAnswer = answerOf loadOf

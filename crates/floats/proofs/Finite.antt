@@ -10,6 +10,7 @@ use lib.Seq.{take-suc}
 use lib.Ieee.{Float, nan, inf, fin, lt}
 use lib.Ieee.Scale.{finite}
 use Rattle.floats.specs.Numbers.{zeros, allFinite}
+use Rattle.floats.proofs.Tests.{and-assoc}
 
 -- ---- one number
 pub under-top : (x : Float) → lt x (inf false) ≡ true → lt (inf true) x ≡ finite x
@@ -26,14 +27,10 @@ not-under-top (inf s) t = refl
 not-under-top (fin s m e) t = absurd (true≢false t)
 
 -- ---- lists
-and-assoc : (a b c : Bool) → ((a && b) && c) ≡ (a && (b && c))
-and-assoc true b c = refl
-and-assoc false b c = refl
-
 pub all-append : (xs ys : List Float) → allFinite (xs ++ ys) ≡ (allFinite xs && allFinite ys)
 unfolding allFinite
 all-append [] ys = refl
-all-append (x ∷ xs) ys = ap (λ (b : Bool). finite x && b) (all-append xs ys) ∙ sym (and-assoc (finite x) (allFinite xs) (allFinite ys))
+all-append (x ∷ xs) ys = ap (λ (b : Bool). finite x && b) (all-append xs ys) ∙ and-assoc (finite x) (allFinite xs) (allFinite ys)
 
 pub all-zeros : (k : ℕ) → allFinite (zeros k) ≡ true
 unfolding allFinite zeros

@@ -14,12 +14,13 @@ use lib.Ieee.{Float, nan, inf, fin, binary64, fits, isNan, ofBits, toBits}
 use lib.Ieee.Bits.{ofBits-toBits, toBits-lt, toBits-ofBits}
 use lib.Ieee.Scale.{finite}
 use Rattle.floats.specs.Numbers.{allFinite}
+use Rattle.floats.proofs.Tests.{and-left, and-right}
 use Rattle.angles.specs.Kinds.{halfOf}
 use Rattle.angles.specs.declared.Residual.{Residual}
 use Rattle.angles.specs.declared.Residual.the-variants.{Plain, Turn}
 use Rattle.angles.specs.declared.Kind.{Kind}
 use Rattle.pieces.specs.Bytes.{AreBytes, littleEndian, wordOf, readEach, allTrue, numberBytes, numberAt, kindBytes, kindAt, formed, kindFits}
-use Rattle.pieces.proofs.Laws.{length-little, word-of-little, word-small, little-of-word, and-left, and-right}
+use Rattle.pieces.proofs.Laws.{length-little, word-of-little, word-small, little-of-word}
 
 -- ---- as the code makes them
 

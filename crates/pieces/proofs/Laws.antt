@@ -1,21 +1,15 @@
 -- Little-endian there and back, and a list of pieces there and back. Assumes nothing.
 use Prim.Native.Nat.{ℕ, zero, suc, _+_, _*_, _/_, _%_, _^_, _≤_, _<_}
 use mathlib.Core.Path.{_≡_, refl, sym, ap, ap₂, _∙_}
-use mathlib.Core.Bool.{Bool, true, false, _&&_, false≢true}
-use mathlib.Core.List.{List, [], _∷_, _++_, map, append-assoc}
+use mathlib.Core.Bool.{Bool, true, _&&_}
+use mathlib.Core.List.{List, [], _∷_, _++_, append-assoc}
 use native.Mathlib.Nat.{pow-succ', zero-add, suc-add, mul-zero}
 use native.Mathlib.Omega.{arith}
 use lib.ListN.{length, take, drop, length-append, length-drop}
 use lib.Seq.{drop-at, take-add, drop-drop, getD-drop}
+use Rattle.floats.specs.Tests.{every}
+use Rattle.floats.proofs.Tests.{and-left, and-right}
 use Rattle.pieces.specs.Bytes.{AreBytes, littleEndian, wordOf, written, readEach, allTrue}
-
-pub and-left : (a b : Bool) → (a && b) ≡ true → a ≡ true
-and-left true b h = refl
-and-left false b h = h
-
-pub and-right : (a b : Bool) → (a && b) ≡ true → b ≡ true
-and-right true b h = h
-and-right false b h = absurd (false≢true h)
 
 -- ---- little-endian
 
@@ -89,7 +83,7 @@ module _ {A : Type 0} (w : ℕ) (to : A → List ℕ) (from : List ℕ → A) wh
 
     -- what is written is read back, whatever follows, where each piece is
     pub read-written : (ok : A → Bool) → ((a : A) → ok a ≡ true → (rest : List ℕ) → from (to a ++ rest) ≡ a)
-        → (l : List A) → allTrue (map ok l) ≡ true → (rest : List ℕ) → readEach w from (length l) (written to l ++ rest) ≡ l
+        → (l : List A) → every ok l ≡ true → (rest : List ℕ) → readEach w from (length l) (written to l ++ rest) ≡ l
     unfolding written readEach
     read-written ok back [] h rest = refl
     read-written ok back (a ∷ l) h rest =
@@ -111,7 +105,7 @@ module _ {A : Type 0} (w : ℕ) (to : A → List ℕ) (from : List ℕ → A) wh
 
   -- a test that each piece passes as it is written, each passes as it is read
   pub read-all : (same : (a : A) → length (to a) ≡ w) (ok : A → Bool) (test : List ℕ → Bool) → ((a : A) → ok a ≡ true → (rest : List ℕ) → test (to a ++ rest) ≡ true)
-      → (l : List A) → allTrue (map ok l) ≡ true → (rest : List ℕ) → allTrue (readEach w test (length l) (written to l ++ rest)) ≡ true
+      → (l : List A) → every ok l ≡ true → (rest : List ℕ) → allTrue (readEach w test (length l) (written to l ++ rest)) ≡ true
   unfolding written readEach
   read-all same ok test good [] h rest = refl
   read-all same ok test good (a ∷ l) h rest =

@@ -1,10 +1,11 @@
 -- Numbers and residual kinds as bytes: a number is eight bytes, its f64 bits little-endian; a kind is a byte (0 plain, 1 turn) and eight bytes of h, all zero if plain. And lists of such pieces. A byte is a number below 256. Definitions only.
 use Prim.Native.Nat.{ℕ, zero, suc, _+_, _*_, _/_, _%_, _<_}
-use mathlib.Core.Bool.{Bool, true, _&&_, cond}
+use mathlib.Core.Bool.{Bool, true, cond}
 use mathlib.Core.List.{List, [], _∷_, _++_}
 use lib.Dec.{eqb}
 use lib.ListN.{drop, getD}
 use lib.Ieee.{Float, binary64, fits, ofBits, toBits}
+use Rattle.floats.specs.Tests.{every}
 use Rattle.angles.specs.declared.Residual.{Residual}
 use Rattle.angles.specs.declared.Residual.the-variants.{Plain, Turn}
 use Rattle.angles.specs.declared.Kind.{Kind}
@@ -62,8 +63,7 @@ module _ {A : Type 0} where
   readEach w from (suc k) b = from b ∷ readEach w from k (drop w b)
 
 abbrev pub allTrue : List Bool → Bool
-allTrue [] = true
-allTrue (t ∷ l) = t && allTrue l
+allTrue l = every (λ (t : Bool). t) l
 
 -- ---- what laws about them speak of
 

@@ -173,16 +173,16 @@ from-three true p c e = e
 from-three false p c e = refl
 
 module _ (f : Format) (b : List ℕ) where
-  pub in-two-parts : loadOf b f ≡ onward (formOf b) (λ (t : Bool). contentsOf f b)
+  pub in-two-parts : loadOf f b ≡ onward (formOf b) (λ (t : Bool). contentsOf f b)
   unfolding loadOf guarded formOf contentsOf judged
   in-two-parts =
       from-three (leb 3 (length b)) (inOrder true (every within (loadAsks b .sizes)) (every long (loadAsks b .lent)) (isRecord b) false false nothing true true nothing) (contentsOf f b)
       (two-parts (every within (loadAsks b .sizes)) (every long (loadAsks b .lent)) (isRecord b) (searched (loadAsks b .inputs)) (every (fit f) (loadAsks b .params)) (filterIn b))
 
-  pub no-form : refusal (formOf b) .number ≢ 0 → refusedAnswer (refusal (formOf b)) ≡ loadAnswer b f
+  pub no-form : refusal (formOf b) .number ≢ 0 → refusedAnswer (refusal (formOf b)) ≡ loadAnswer f b
   no-form h = let g = gave-number (formOf b) h in ap refusedAnswer (g .2) ∙ ap answerOf (sym (in-two-parts ∙ ap (λ (o : Outcome Bool). onward o (λ (t : Bool). contentsOf f b)) (g .1)))
 
-  pub its-contents : refusal (formOf b) .number ≡ 0 → answerOf (contentsOf f b) ≡ loadAnswer b f
+  pub its-contents : refusal (formOf b) .number ≡ 0 → answerOf (contentsOf f b) ≡ loadAnswer f b
   its-contents h = ap answerOf (sym (in-two-parts ∙ ap (λ (o : Outcome Bool). onward o (λ (t : Bool). contentsOf f b)) (gave-zero (formOf b) true h)))
 
 -- what the code's tests of what stands there tell

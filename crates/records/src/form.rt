@@ -17,8 +17,7 @@ pub fn form_refusal(s: &[u8]) -> Verdict
     if !checks::is_sized(n) {
         return floats::placeless(1);
     }
-    let k = n * n;
-    if s.len() < 27 + 17 * n + 16 * k {
+    if s.len() < crate::record_length(n) {
         return floats::placeless(2);
     }
     if s[0] != 0x57 {
@@ -27,7 +26,7 @@ pub fn form_refusal(s: &[u8]) -> Verdict
     if s[1] != 0x50 {
         return floats::placeless(12);
     }
-    if !kinds::all_formed(s, 27 + 8 * n + 16 * k, n) {
+    if !kinds::all_formed(s, 27 + 8 * n + 16 * (n * n), n) {
         return floats::placeless(12);
     }
     floats::placeless(0)

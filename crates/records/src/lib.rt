@@ -53,7 +53,7 @@ pub fn save(f: Filter, out: &mut [u8]) -> Verdict
 
 // A filter with a sheet of its own, stale; refused, the empty filter.
 pub fn load(s: &[u8]) -> Answer
-    ensures { λ r. ⌜ r ≡ loadAnswer (now (s .entry)) binary64 ⌝ }
+    ensures { λ r. ⌜ r ≡ loadAnswer binary64 (now (s .entry)) ⌝ }
 {
     let refusal = form::form_refusal(s);
     if refusal.number != 0 {

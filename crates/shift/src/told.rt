@@ -82,7 +82,9 @@ fn tell_save(number: u8) {
     match number {
         1 => tell(b" SIZE: the filter is empty"),
         3 => tell(b" STAGE: a call is open"),
-        _ => tell(b" FRESH: not stale, no correction or setting since the last prediction"),
+        _ => tell(
+            b" FRESH: not stale, since the last prediction no correction and nothing set but Q",
+        ),
     }
 }
 

@@ -64,10 +64,8 @@ returns-2 c =
     let d = c .before .before .before in
     let k = read d in
     let b = bytes k in
-    let v = d .contents-refusal .result in
-    ap (λ (t : Track). record { filter = filter (sheet (statesIn b) (k .before .before .before .before .matrix-at2 .result) (params k) (k .kinds-at .result)) t; refusal = v }) (c .fresh-track .ensures)
-    ∙ ap₂ (λ (s : Filter) (r : Verdict). record { filter = s; refusal = r }) (parts-filter b (parts k)) (judged-is d)
-    ∙ judged-on (tests b) (filterIn b) (sym (number-of (judged-is d)) ∙ c .before .if1 .left)
+    rw (c .fresh-track .ensures)
+    (ap₂ (λ (s : Filter) (r : Verdict). record { filter = s; refusal = r }) (parts-filter b (parts k)) (judged-is d) ∙ judged-on (tests b) (filterIn b) (sym (number-of (judged-is d)) ∙ c .before .if1 .left))
 
 pub contents-spec : {M : Type 1} → statement M
 contents-spec =
