@@ -33,7 +33,7 @@ fn is_half_turn(h: f64) -> bool
 }
 
 // What a wrap answers: number and place, and the wrapped value, +0 where it is refused.
-#[derive(Drop)]
+#[derive(Clone, Copy)]
 pub struct Wrapped {
     pub refusal: Verdict,
     pub value: f64,
@@ -63,14 +63,14 @@ pub fn wrap(d: f64, h: f64) -> Wrapped
 }
 
 // How a difference is taken: as it is, or wrapped at a half-turn.
-#[derive(Drop)]
+#[derive(Clone, Copy)]
 pub enum Residual {
     Plain,
     Turn(f64),
 }
 
 // A residual held in a struct, so that an array of them can stand in a filter.
-#[derive(Drop)]
+#[derive(Clone, Copy)]
 pub struct Kind {
     pub residual: Residual,
 }

@@ -34,7 +34,7 @@ fn is_half_turn(h: f32) -> bool
 }
 
 // What a wrap answers: number and place, and the wrapped value, +0 where it is refused.
-#[derive(Drop)]
+#[derive(Clone, Copy)]
 pub struct Wrapped {
     pub refusal: Verdict,
     pub value: f32,
@@ -64,14 +64,14 @@ pub fn wrap(d: f32, h: f32) -> Wrapped
 }
 
 // How a difference is taken: as it is, or wrapped at a half-turn.
-#[derive(Drop)]
+#[derive(Clone, Copy)]
 pub enum Residual {
     Plain,
     Turn(f32),
 }
 
 // A residual held in a struct, so that an array of them can stand in a filter.
-#[derive(Drop)]
+#[derive(Clone, Copy)]
 pub struct Kind {
     pub residual: Residual,
 }

@@ -16,7 +16,7 @@ pub mod setters;
 mod tests;
 
 // What is open, and which way: with the whole point list, or one point at a time.
-#[derive(Drop)]
+#[derive(Clone, Copy)]
 pub enum Stage {
     Shut,
     Predicting,
@@ -26,14 +26,14 @@ pub enum Stage {
 }
 
 // The points of a filter with their weights.
-#[derive(Drop)]
+#[derive(Clone, Copy)]
 pub struct Weighted {
     pub weights: [f64; 17],
     pub points: [f64; 136],
 }
 
 // The settings sheet: how many states, process noise, parameters and residual kinds. Flat arrays sized for 8 states; unused places hold +0, unused kinds are plain.
-#[derive(Drop)]
+#[derive(Clone, Copy)]
 pub struct Sheet {
     pub n: usize,
     pub q: [f64; 64],
@@ -42,7 +42,7 @@ pub struct Sheet {
 }
 
 // What a stepped call keeps, up to 2n+1 images of n numbers or of m: how many images are in, whether the point after them has been asked for, the m that a correction's first image has named (0 before, and in a prediction), and the images, one after the other.
-#[derive(Drop)]
+#[derive(Clone, Copy)]
 pub struct Kept {
     pub at: usize,
     pub asked: bool,
@@ -51,7 +51,7 @@ pub struct Kept {
 }
 
 // The rest of a filter: its state and covariance, current points and weights, what is open, what that has drawn and what it keeps. Unused places hold +0; while nothing is open, so does scratch, what an open call has drawn and keeps.
-#[derive(Drop)]
+#[derive(Clone, Copy)]
 pub struct Track {
     pub x: [f64; 8],
     pub p: [f64; 64],
@@ -65,28 +65,28 @@ pub struct Track {
 }
 
 // A filter: a track on a sheet.
-#[derive(Drop)]
+#[derive(Clone, Copy)]
 pub struct Filter {
     pub sheet: Sheet,
     pub track: Track,
 }
 
 // The next filter with the answer's number and place.
-#[derive(Drop)]
+#[derive(Clone, Copy)]
 pub struct Answer {
     pub filter: Filter,
     pub refusal: Verdict,
 }
 
 // What a reading of the parameters answers.
-#[derive(Drop)]
+#[derive(Clone, Copy)]
 pub struct ParamsRead {
     pub refusal: Verdict,
     pub params: Params,
 }
 
 // What a reading of the stale mark answers.
-#[derive(Drop)]
+#[derive(Clone, Copy)]
 pub struct StaleRead {
     pub refusal: Verdict,
     pub stale: bool,

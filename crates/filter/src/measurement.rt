@@ -6,7 +6,7 @@ use crate::{checks, fronts, tests};
 use floats::{Slice, Verdict};
 
 // Number and place, and z, R and the observed points, +0 where it is refused.
-#[derive(Drop)]
+#[derive(Clone, Copy)]
 pub struct Intake {
     pub refusal: Verdict,
     pub z: [f64; 8],

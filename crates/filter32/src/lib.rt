@@ -16,14 +16,14 @@ pub mod setters;
 mod tests;
 
 // The points of a filter with their weights.
-#[derive(Drop)]
+#[derive(Clone, Copy)]
 pub struct Weighted {
     pub weights: [f32; 17],
     pub points: [f32; 136],
 }
 
 // The settings sheet: how many states, process noise, parameters and residual kinds. Flat arrays sized for 8 states; unused places hold +0, unused kinds are plain.
-#[derive(Drop)]
+#[derive(Clone, Copy)]
 pub struct Sheet {
     pub n: usize,
     pub q: [f32; 64],
@@ -32,7 +32,7 @@ pub struct Sheet {
 }
 
 // The rest of a filter: its state and covariance, current points and weights, what is open and what that has drawn. Unused places hold +0; while nothing is open, so does scratch, what an open call has drawn.
-#[derive(Drop)]
+#[derive(Clone, Copy)]
 pub struct Track {
     pub x: [f32; 8],
     pub p: [f32; 64],
@@ -45,21 +45,21 @@ pub struct Track {
 }
 
 // A filter: a track on a sheet.
-#[derive(Drop)]
+#[derive(Clone, Copy)]
 pub struct Filter {
     pub sheet: Sheet,
     pub track: Track,
 }
 
 // The next filter with the answer's number and place.
-#[derive(Drop)]
+#[derive(Clone, Copy)]
 pub struct Answer {
     pub filter: Filter,
     pub refusal: Verdict,
 }
 
 // What a reading of the parameters answers.
-#[derive(Drop)]
+#[derive(Clone, Copy)]
 pub struct ParamsRead {
     pub refusal: Verdict,
     pub params: Params,

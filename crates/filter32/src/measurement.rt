@@ -8,7 +8,7 @@ use filter::checks;
 use floats::{Slice, Verdict};
 
 // Number and place, and z, R and the observed points, +0 where it is refused.
-#[derive(Drop)]
+#[derive(Clone, Copy)]
 pub struct Intake {
     pub refusal: Verdict,
     pub z: [f32; 8],

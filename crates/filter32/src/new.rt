@@ -12,14 +12,14 @@ use floats::{Slice, Verdict};
 use sigma32::Params;
 
 // A new sheet with number and place; refused, the empty filter's.
-#[derive(Drop)]
+#[derive(Clone, Copy)]
 pub struct NewSheet {
     pub refusal: Verdict,
     pub sheet: Sheet,
 }
 
 // A new track with number and place; refused, the empty filter's.
-#[derive(Drop)]
+#[derive(Clone, Copy)]
 pub struct NewTrack {
     pub refusal: Verdict,
     pub track: Track,

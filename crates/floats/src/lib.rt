@@ -6,7 +6,7 @@ ghost use Rattle.floats.specs.Search.{input, searched};
 ghost use Rattle.floats.specs.Numbers.{all_finite, above_zero};
 
 // What the numbers that come in are, in the order in which they are searched; but New of a pair takes x and P of the second right after those of the first, and the number doesn't tell whose. The first bad one of a slice is told by its place there, from 0.
-#[derive(Drop)]
+#[derive(Clone, Copy)]
 pub enum Slice {
     // 51: x
     State,
@@ -23,7 +23,7 @@ pub enum Slice {
 }
 
 // What every answer says: 0 or the number of a refusal, and the place that the refusal tells, else 0.
-#[derive(Drop)]
+#[derive(Clone, Copy)]
 pub struct Verdict {
     pub number: u8,
     pub place: usize,

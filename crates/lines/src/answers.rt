@@ -9,7 +9,7 @@ use floats::Verdict;
 use sigma::Params;
 
 // What is held, and how many bytes of answers wait.
-#[derive(Drop)]
+#[derive(Clone, Copy)]
 pub struct Turn {
     pub held: Held,
     pub used: usize,

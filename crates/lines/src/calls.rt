@@ -41,7 +41,7 @@ fn last_list(s: &[u8], at: usize, list: &mut [f64; 512]) -> ListRead {
 }
 
 // Three parameters and the place after them, or none.
-#[derive(Drop)]
+#[derive(Clone, Copy)]
 enum ParamsAt {
     Three { params: Params, next: usize },
     NoParams,
@@ -62,7 +62,7 @@ fn params_at(s: &[u8], at: usize) -> ParamsAt {
 }
 
 // Two lists and the place after them, or none.
-#[derive(Drop)]
+#[derive(Clone, Copy)]
 enum TwoAt {
     Two {
         first: usize,
@@ -87,7 +87,7 @@ fn two_lists_at(s: &[u8], at: usize, a: &mut [f64; 512], b: &mut [f64; 512]) -> 
 }
 
 // The end of a new, LIST(Q) alpha beta kappa, or none.
-#[derive(Drop)]
+#[derive(Clone, Copy)]
 enum SheetAt {
     Sheet { of_q: usize, params: Params },
     NoSheet,
@@ -133,7 +133,7 @@ fn new(held: Held, s: &[u8], at: usize, out: &mut [u8], used: usize) -> Turn {
 }
 
 // What newpair reads: n, how many numbers of each list there are, and the parameters; or no pair.
-#[derive(Drop)]
+#[derive(Clone, Copy)]
 struct PairLists {
     n: usize,
     x1: usize,
@@ -144,7 +144,7 @@ struct PairLists {
     params: Params,
 }
 
-#[derive(Drop)]
+#[derive(Clone, Copy)]
 enum PairAt {
     Lists(PairLists),
     NoPair,
@@ -288,7 +288,7 @@ fn lend(name: Name, held: Held, s: &[u8], at: usize, out: &mut [u8], used: usize
 }
 
 // Four kinds and the place after them; not found where one is missing.
-#[derive(Drop)]
+#[derive(Clone, Copy)]
 struct FourKinds {
     found: bool,
     kinds: [Kind; 4],
@@ -343,7 +343,7 @@ fn observed_of(name: Name, s: &[u8], at: usize, list: &mut [f64; 512]) -> ListRe
 }
 
 // What a close reads after R: its kinds and how many numbers of observed points; not found where that is not all there is.
-#[derive(Drop)]
+#[derive(Clone, Copy)]
 struct Closing {
     found: bool,
     kinds: [Kind; 4],

@@ -10,7 +10,7 @@ use script::Name;
 use sigma::Params;
 
 // What is held, and whose call the line is.
-#[derive(Drop)]
+#[derive(Clone, Copy)]
 pub struct Held {
     pub filter: Filter,
     pub pair: Pair,
@@ -18,14 +18,14 @@ pub struct Held {
 }
 
 // The filter's, or that of a side of the pair.
-#[derive(Drop)]
+#[derive(Clone, Copy)]
 pub enum Whose {
     Alone,
     On(Side),
 }
 
 // What a call has left, with the answer's number and place.
-#[derive(Drop)]
+#[derive(Clone, Copy)]
 pub struct Done {
     pub held: Held,
     pub refusal: Verdict,

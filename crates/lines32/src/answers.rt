@@ -8,7 +8,7 @@ use floats::Verdict;
 use sigma32::Params;
 
 // What is held, and how many bytes of answers wait.
-#[derive(Drop)]
+#[derive(Clone, Copy)]
 pub struct Turn {
     pub held: Filter,
     pub used: usize,

@@ -40,7 +40,7 @@ fn last_list(s: &[u8], at: usize, list: &mut [f32; 512]) -> ListRead {
 }
 
 // Three parameters and the place after them, or none.
-#[derive(Drop)]
+#[derive(Clone, Copy)]
 enum ParamsAt {
     Three { params: Params, next: usize },
     NoParams,
@@ -61,7 +61,7 @@ fn params_at(s: &[u8], at: usize) -> ParamsAt {
 }
 
 // Two lists and the place after them, or none.
-#[derive(Drop)]
+#[derive(Clone, Copy)]
 enum TwoAt {
     Two {
         first: usize,
@@ -86,7 +86,7 @@ fn two_lists_at(s: &[u8], at: usize, a: &mut [f32; 512], b: &mut [f32; 512]) -> 
 }
 
 // The end of a new, LIST(Q) alpha beta kappa, or none.
-#[derive(Drop)]
+#[derive(Clone, Copy)]
 enum SheetAt {
     Sheet { of_q: usize, params: Params },
     NoSheet,
@@ -193,7 +193,7 @@ fn lend(name: Name, held: Filter, s: &[u8], at: usize, out: &mut [u8], used: usi
 }
 
 // Four kinds and the place after them; not found where one is missing.
-#[derive(Drop)]
+#[derive(Clone, Copy)]
 struct FourKinds {
     found: bool,
     kinds: [Kind; 4],
@@ -232,7 +232,7 @@ fn kinds_at(s: &[u8], at: usize) -> FourKinds {
 }
 
 // What a close reads after R: its kinds and how many numbers of observed points; not found where that is not all there is.
-#[derive(Drop)]
+#[derive(Clone, Copy)]
 struct Closing {
     found: bool,
     kinds: [Kind; 4],

@@ -15,7 +15,7 @@ use Rattle.floats.specs.Numbers.{zeros, all_finite, above_zero}
 use Rattle.root.specs.Definition.{root_of}
 use Rattle.matrix.specs.Sums.{less_of}
 use Rattle.matrix.specs.Results.{Work, worked, then, Plan, after}
-use Rattle.matrix.specs.Factor.{rows_from, column_of, columns_from, factor_of, factored}
+use Rattle.matrix.specs.Factor.{left_of, rows_from, column_of, columns_from, factor_of, factored}
 use Rattle.matrix.specs.declared.factor.Factor.{Factor}
 use Rattle.matrix.proofs.Results.{Comes, after_goes, after_stops}
 
@@ -55,7 +55,9 @@ module _ {f : Format} {r : ℕ → Refusal} {a : List Float} {n j : ℕ} {l : Li
   module _ {s : ℕ} {p : Float} (h : j < n) (row : s ≡ j * n) (is : p ≡ less_of f (get_or a (s + j) nan) l s s j) where
     pub column_goes : {d : Float} → above_zero p ≡ true → d ≡ root_of f p → RowsAt f r a n j d (j + 1) (set l (s + j) d)
     unfolding columns_from column_of worked
-    column_goes t e = record { comes = rw (row, e) (rw (one_more j n h, ← row, ← is, t, row) at at.comes) }
+    column_goes t e =
+        let whole : p ≡ left_of f a n j j l = rw row at is in
+        let good : above_zero (left_of f a n j j l) ≡ true = rw whole at t in record { comes = rw (row, e, whole) (rw (one_more j n h, good) at at.comes) }
 
     pub column_stops : above_zero p ≡ false → worked (factor_of f r a n) ≡ refused (r j)
     unfolding columns_from column_of worked

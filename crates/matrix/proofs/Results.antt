@@ -33,6 +33,7 @@ module _ {A : Type 0} where
 
   first_refused : (w : Work A) (r : Refusal) → First r (results w) → worked w ≡ refused r
   unfolding worked
+  first_refused (made a) r h = elim h [ ]
   first_refused (check v w) r (now h) = rw h
   first_refused (check v w) r (later h f) = rw h (first_refused w r f)
 

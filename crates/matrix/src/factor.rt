@@ -10,7 +10,7 @@ use floats::Verdict;
 use root::Root;
 
 // A factor: 0 and its entries, or the number that it was refused by, with its place (of a pivot the row), and +0 throughout.
-#[derive(Drop)]
+#[derive(Clone, Copy)]
 pub struct Factor {
     pub refusal: Verdict,
     pub l: [f64; 64],

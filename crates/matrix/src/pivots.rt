@@ -6,7 +6,7 @@ ghost use Rattle.matrix.specs.Factor.{refused_by};
 use floats::Verdict;
 
 // Whose pivots a factor has: those of P or those of S.
-#[derive(Drop)]
+#[derive(Clone, Copy)]
 pub enum Pivots {
     OfP,
     OfS,

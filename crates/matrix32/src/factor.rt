@@ -12,7 +12,7 @@ use matrix::{layout, pivots};
 use root32::Root;
 
 // A factor: 0 and its entries, or the number that it was refused by, with its place (of a pivot the row), and +0 throughout.
-#[derive(Drop)]
+#[derive(Clone, Copy)]
 pub struct Factor {
     pub refusal: Verdict,
     pub l: [f32; 64],

@@ -11,7 +11,7 @@ mod sides;
 pub mod steps;
 
 // One sheet and two tracks. A track with the sheet is a filter, and a call on a side is that filter's own call; but a change of the sheet is taken only while neither side has a call open, and reaches both.
-#[derive(Drop)]
+#[derive(Clone, Copy)]
 pub struct Pair {
     pub sheet: Sheet,
     pub first: Track,
@@ -19,14 +19,14 @@ pub struct Pair {
 }
 
 // The side that a call is on.
-#[derive(Drop)]
+#[derive(Clone, Copy)]
 pub enum Side {
     First,
     Second,
 }
 
 // The next pair with the answer's number and place.
-#[derive(Drop)]
+#[derive(Clone, Copy)]
 pub struct PairAnswer {
     pub pair: Pair,
     pub refusal: Verdict,

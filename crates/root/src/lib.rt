@@ -6,7 +6,7 @@ ghost use Rattle.std.specs.Float.Ieee.{of_bits};
 ghost use Rattle.root.specs.Definition.{root_of, root_units, near_root};
 ghost use Rattle.root.specs.Answer.{outcome_of, root_outcome};
 
-#[derive(Drop)]
+#[derive(Clone, Copy)]
 pub enum Root {
     Value(f64),
     Refused,

@@ -7,7 +7,7 @@ ghost use Rattle.root.specs.Definition.{root_of, root_units, near_root};
 ghost use Rattle.root.specs.Answer.{outcome_of, root_outcome};
 ghost use Rattle.root32.specs.Wide.{wide_root};
 
-#[derive(Drop)]
+#[derive(Clone, Copy)]
 pub enum Root {
     Value(f32),
     Refused,

@@ -7,7 +7,7 @@ use lines::held::Held;
 use script::Name;
 
 // What the lines so far have left: the filter and the pair, the f32 filter, and how many bytes of answers wait.
-#[derive(Drop)]
+#[derive(Clone, Copy)]
 struct Left {
     held: Held,
     narrow: Filter,
@@ -15,7 +15,7 @@ struct Left {
 }
 
 // What is held, how many bytes of the line that is being read are there, how many bytes of answers wait, and whether the input goes on.
-#[derive(Drop)]
+#[derive(Clone, Copy)]
 struct Progress {
     held: Held,
     narrow: Filter,

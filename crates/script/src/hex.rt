@@ -35,7 +35,7 @@ fn pairs(digits: usize) -> usize
     digits / 2
 }
 
-#[derive(Drop)]
+#[derive(Clone, Copy)]
 pub enum BytesRead {
     Bytes { len: usize, next: usize },
     NoBytes,

@@ -4,7 +4,7 @@ ghost use Rattle.script.specs.Names.{named, settings, steps, stepped, readings, 
 
 use crate::text::{part, same_bytes, token_at};
 
-#[derive(Drop)]
+#[derive(Clone, Copy)]
 pub enum Name {
     New,
     SetX,
@@ -189,7 +189,7 @@ pub fn name_of(token: &[u8]) -> Name
 }
 
 // The call that the first token at place at or after it names, and the place after that token.
-#[derive(Drop)]
+#[derive(Clone, Copy)]
 pub struct Call {
     pub name: Name,
     pub next: usize,

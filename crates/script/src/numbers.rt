@@ -7,7 +7,7 @@ use crate::text::{part, same_bytes, token_at};
 use angles::{Kind, Residual};
 use words::Word;
 
-#[derive(Drop)]
+#[derive(Clone, Copy)]
 pub enum SizeRead {
     Size { value: u64, next: usize },
     NoSize,
@@ -39,7 +39,7 @@ pub fn size_at(s: &[u8], at: usize) -> SizeRead
     SizeRead::Size { value: v, next: k }
 }
 
-#[derive(Drop)]
+#[derive(Clone, Copy)]
 pub enum NumberRead {
     Number { value: f64, next: usize },
     NoNumber,
@@ -67,7 +67,7 @@ pub fn number_at(s: &[u8], at: usize) -> NumberRead
     }
 }
 
-#[derive(Drop)]
+#[derive(Clone, Copy)]
 pub enum ListRead {
     Numbers { len: usize, next: usize },
     NoList,
@@ -130,7 +130,7 @@ pub fn marked() -> [f64; 512]
     buffer
 }
 
-#[derive(Drop)]
+#[derive(Clone, Copy)]
 pub enum KindRead {
     Told { kind: Kind, next: usize },
     NoKind,

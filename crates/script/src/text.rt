@@ -15,7 +15,7 @@ pub fn is_blank(c: u8) -> bool
 }
 
 // What a run is made of: blanks, bytes that are no blank, bytes that start no comment, or bytes that end no line.
-#[derive(Drop)]
+#[derive(Clone, Copy)]
 pub enum Class {
     Blank,
     Mark,
@@ -64,7 +64,7 @@ pub fn code(line: &[u8]) -> &[u8]
 }
 
 // The bytes from start up to end; none where they are none.
-#[derive(Drop)]
+#[derive(Clone, Copy)]
 pub struct Token {
     pub start: usize,
     pub end: usize,

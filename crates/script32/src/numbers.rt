@@ -9,7 +9,7 @@ use script::numbers::{ListRead, SizeRead};
 use script::text::{part, same_bytes, token_at};
 use words::Word;
 
-#[derive(Drop)]
+#[derive(Clone, Copy)]
 pub enum NumberRead {
     Number { value: f32, next: usize },
     NoNumber,
@@ -94,7 +94,7 @@ pub fn marked() -> [f32; 512]
     buffer
 }
 
-#[derive(Drop)]
+#[derive(Clone, Copy)]
 pub enum KindRead {
     Told { kind: Kind, next: usize },
     NoKind,

@@ -2,7 +2,7 @@
 use crate::told;
 
 // How many bytes were read, and whether that went well.
-#[derive(Drop)]
+#[derive(Clone, Copy)]
 pub struct Got {
     pub is_read: bool,
     pub len: usize,

@@ -10,7 +10,7 @@ pub mod spread;
 pub mod weights;
 
 // The three parameters.
-#[derive(Drop)]
+#[derive(Clone, Copy)]
 pub struct Params {
     pub alpha: f64,
     pub beta: f64,
@@ -18,14 +18,14 @@ pub struct Params {
 }
 
 // What a draw answers: the number with its place, and the points, +0 where it is refused.
-#[derive(Drop)]
+#[derive(Clone, Copy)]
 pub struct Drawn {
     pub refusal: Verdict,
     pub points: [f64; 136],
 }
 
 // What a close answers: the number with its place, and x and P, +0 where it is refused.
-#[derive(Drop)]
+#[derive(Clone, Copy)]
 pub struct Moments {
     pub refusal: Verdict,
     pub x: [f64; 8],

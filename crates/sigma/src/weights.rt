@@ -6,7 +6,7 @@ ghost use Rattle.sigma.specs.Weights.{scale_of, w0m_of, weights_of, weights_pass
 use crate::Params;
 
 // N, the weight of point 0 in means and in spreads, and the weight of every other point.
-#[derive(Drop)]
+#[derive(Clone, Copy)]
 pub struct Weighting {
     pub scale: f64,
     pub w0m: f64,

@@ -8,7 +8,7 @@ pub mod spread;
 pub mod weights;
 
 // The three parameters.
-#[derive(Drop)]
+#[derive(Clone, Copy)]
 pub struct Params {
     pub alpha: f32,
     pub beta: f32,
@@ -16,14 +16,14 @@ pub struct Params {
 }
 
 // What a draw answers: the number with its place, and the points, +0 where it is refused.
-#[derive(Drop)]
+#[derive(Clone, Copy)]
 pub struct Drawn {
     pub refusal: Verdict,
     pub points: [f32; 136],
 }
 
 // What a close answers: the number with its place, and x and P, +0 where it is refused.
-#[derive(Drop)]
+#[derive(Clone, Copy)]
 pub struct Moments {
     pub refusal: Verdict,
     pub x: [f32; 8],

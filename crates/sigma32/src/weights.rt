@@ -7,7 +7,7 @@ ghost use Rattle.sigma32.specs.Wide.{wide_params, wide_weighting};
 use crate::Params;
 
 // N, the weight of point 0 in means and in spreads, and the weight of every other point.
-#[derive(Drop)]
+#[derive(Clone, Copy)]
 pub struct Weighting {
     pub scale: f32,
     pub w0m: f32,

@@ -223,7 +223,7 @@ fn answer_sum(minus: bool) -> bool {
 }
 
 // Three parameters, and whether there were three numbers.
-#[derive(Drop)]
+#[derive(Clone, Copy)]
 struct ParamsGiven {
     ok: bool,
     params: Params,
@@ -243,7 +243,7 @@ fn next_params() -> ParamsGiven {
 }
 
 // Kinds, and whether they were all there: for each a count, 0 plain or 1 a turn, and a half-turn.
-#[derive(Drop)]
+#[derive(Clone, Copy)]
 struct KindsGiven {
     ok: bool,
     kinds: [Kind; 8],

@@ -52,7 +52,7 @@ pub fn digit(c: u8) -> u64
 }
 
 // What stands where a word should: its bits, or no word.
-#[derive(Drop)]
+#[derive(Clone, Copy)]
 pub enum Word {
     Bits(u64),
     Bad,

@@ -5,13 +5,13 @@ use Rattle.angles.specs.Wrap.{half_turn}
 use Rattle.angles.proofs.is_half_turn.Statement.{statement}
 use Rattle.angles.proofs.is_half_turn.Tie as tie
 
-returns : tie.Need-returns
+returns : tie.Need-returns-then-h
 unfolding half_turn of_bits
-returns c = rw c.before.if1.true c.is-finite.ensures
+returns c = rw c.if-h.true c.is_finite.ensures
 
-returns-2 : tie.Need-returns-2
+returns-2 : tie.Need-returns
 unfolding half_turn of_bits
-returns-2 c = rw c.if1.false
+returns-2 c = rw c.if-h.false
 
-pub is-half-turn-spec : {M : Type 1} → statement M
-is-half-turn-spec = tie.close (tie.spec (λ c κs. search rules) returns returns-2)
+pub is_half_turn_spec : {M : Type 1} → statement M
+is_half_turn_spec = tie.close (tie.spec (λ c κs. search rules) returns returns-2)

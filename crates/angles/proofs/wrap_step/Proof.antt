@@ -4,17 +4,17 @@ use Rattle.angles.specs.Wrap.{wrap_step, brought}
 use Rattle.angles.proofs.wrap_step.Statement.{statement}
 use Rattle.angles.proofs.wrap_step.Tie as tie
 
-returns : tie.Need-returns
+returns : tie.Need-returns-then-r-h
 unfolding wrap_step brought
-returns c = rw c.if1.true
+returns c = rw c.if-r-h.true
 
-returns-2 : tie.Need-returns-2
+returns-2 : tie.Need-returns-then-r-h-2
 unfolding wrap_step brought
-returns-2 c = rw (c.before.if1.false, c.if2.true)
+returns-2 c = rw (c.if-r-h.false, c.if-r-h-2.true)
 
-returns-3 : tie.Need-returns-3
+returns-3 : tie.Need-returns
 unfolding wrap_step brought
-returns-3 c = rw (c.before.if1.false, c.if2.false)
+returns-3 c = rw (c.if-r-h.false, c.if-r-h-2.false)
 
-pub wrap-step-spec : {M : Type 1} → statement M
-wrap-step-spec = tie.close (tie.spec returns returns-2 returns-3)
+pub wrap_step_spec : {M : Type 1} → statement M
+wrap_step_spec = tie.close (tie.spec returns returns-2 returns-3)

@@ -6,13 +6,13 @@ use Rattle.floats.specs.Numbers.{above_zero}
 use Rattle.floats.proofs.is_above_zero.Statement.{statement}
 use Rattle.floats.proofs.is_above_zero.Tie as tie
 
-returns : tie.Need-returns
+returns : tie.Need-returns-then-is_finite
 unfolding above_zero of_bits
-returns c = rw (sym c.before.is-finite.ensures ∙ c.if1.true)
+returns c = rw (sym c.before.is_finite.ensures ∙ c.if-is_finite.true)
 
-returns-2 : tie.Need-returns-2
+returns-2 : tie.Need-returns
 unfolding above_zero
-returns-2 c = rw (sym c.before.is-finite.ensures ∙ c.if1.false)
+returns-2 c = rw (sym c.before.is_finite.ensures ∙ c.if-is_finite.false)
 
-pub is-above-zero-spec : {M : Type 1} → statement M
-is-above-zero-spec = tie.close (tie.spec (λ c κs. search rules) returns returns-2)
+pub is_above_zero_spec : {M : Type 1} → statement M
+is_above_zero_spec = tie.close (tie.spec (λ c κs. search rules) returns returns-2)

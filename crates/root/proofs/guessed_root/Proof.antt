@@ -6,15 +6,15 @@ use Rattle.root.proofs.guessed_root.Statement.{statement}
 use Rattle.root.proofs.guessed_root.Tie as tie
 
 -- s is what `high_part` gives
-abbrev invariant-loop : tie.invariant-loop
-invariant-loop d t r₀ s₀ i₀ r s i = s < 2 ^ 33
+abbrev invariant-loop-i : tie.invariant-loop-i
+invariant-loop-i d t r₀ s₀ i₀ r s i = s < 2 ^ 33
 
-abbrev decreases-loop : tie.decreases-loop
-decreases-loop d t r₀ s₀ i₀ r s i = 3 - i
+abbrev decreases-loop-i : tie.decreases-loop-i
+decreases-loop-i d t r₀ s₀ i₀ r s i = 3 - i
 
-pub guessed-root-spec : {M : Type 1} → statement M
-guessed-root-spec =
+pub guessed_root_spec : {M : Type 1} → statement M
+guessed_root_spec =
     tie.close
-    (tie.spec invariant-loop decreases-loop (λ c. omega arith) (λ c κs. search rules) (λ c. omega arith) (λ c κs. search rules) (λ c. omega arith) (λ c κs. search rules)
+    (tie.spec invariant-loop-i decreases-loop-i (λ c. omega arith) (λ c κs. search rules) (λ c. omega arith) (λ c κs. search rules) (λ c. omega arith) (λ c κs. search rules)
     (λ c. search rules) (λ c κs. search rules) (λ c. omega arith) (λ c κs. search rules) (λ c κs. search rules) (λ c. omega arith) (λ c. omega arith) (λ c. search rules)
     (λ c. omega arith) (λ c κs. search rules) (λ c. search rules) (λ c. omega arith) (λ c κs. search rules) (λ c. omega arith) (λ c. omega arith) (λ c. search rules))

@@ -11,7 +11,7 @@ use Rattle.root.proofs.Judged.{Near, near_told, near_only, Halves, halves}
 use Rattle.root.proofs.is_nearest_root.Statement.{statement}
 use Rattle.root.proofs.is_nearest_root.Tie as tie
 
-parts : (c : tie.Else1) → Halves c.before.args.q (c.before.args.q / 2 ^ 26) (c.before.args.q % 2 ^ 26)
+parts : (c : tie.Else-q-gt9007199254740992) → Halves c.before.args.q (c.before.args.q / 2 ^ 26) (c.before.args.q % 2 ^ 26)
 parts c = halves c.before.args.q (omega arith)
 
 -- what is answered where q is not near
@@ -19,7 +19,7 @@ denied : (d q : ℕ) → d < 2 ^ 54 → (Near (d * 2 ^ 52) q → ⊥) → (false
 denied d q h k = ((λ e. absurd (false≢true e)), (λ p e. absurd (k (near_told 53 (d * 2 ^ 52) q (omega arith) (omega arith) e))))
 
 -- the root is at most 2 ^ 53
-returns : tie.Need-returns
+returns : tie.Need-returns-then-q-gt9007199254740992
 returns c =
     let d = c.before.args.d in
     let q = c.before.args.q in
@@ -29,30 +29,30 @@ returns c =
     let r = near_range 53 (d * 2 ^ 52) 0 (2 ^ 53 + 1) (omega arith) (lit< tt) (omega arith) (omega arith) in
     omega arith)
 
-returns-2 : tie.Need-returns-2
+returns-2 : tie.Need-returns-then-first-d
 returns-2 c =
     let m = parts c.before in
     denied c.before.before.args.d c.before.before.args.q (search rules) (λ n. omega arith)
 
-returns-3 : tie.Need-returns-3
+returns-3 : tie.Need-returns-then-above-gt3
 returns-3 c =
     let m = parts c.before.before in
     denied c.before.before.before.args.d c.before.before.before.args.q (search rules) (λ n. omega arith)
 
-returns-4 : tie.Need-returns-4
+returns-4 : tie.Need-returns-then-rest-q
 returns-4 c =
     let m = parts c.before.before.before in
     denied c.before.before.before.before.args.d c.before.before.before.before.args.q (search rules) (λ n. omega arith)
 
-returns-5 : tie.Need-returns-5
+returns-5 : tie.Need-returns
 returns-5 c =
     let d = c.before.before.before.before.args.d in
     let q = c.before.before.before.before.args.q in
     let m = parts c.before.before.before in
     ((λ e. near_only 53 (d * 2 ^ 52) q (omega arith) (omega arith, omega arith)), (λ p e. refl))
 
-pub is-nearest-root-spec : {M : Type 1} → statement M
-is-nearest-root-spec =
+pub is_nearest_root_spec : {M : Type 1} → statement M
+is_nearest_root_spec =
     tie.close (tie.spec
     returns (λ c. omega arith) (λ c. let m = parts c in omega arith) (λ c. omega arith) (λ c. omega arith) (λ c. let m = parts c in omega arith)
     (λ c. let m = parts c in omega arith) (λ c. let m = parts c in omega arith) (λ c. let m = parts c in omega arith)

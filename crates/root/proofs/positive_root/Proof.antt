@@ -6,20 +6,20 @@ use Rattle.root.proofs.Ways.{width, Moved, fraction, led, subnormal, low_out, hi
 use Rattle.root.proofs.positive_root.Statement.{statement}
 use Rattle.root.proofs.positive_root.Tie as tie
 
-low : (c : tie.Then1) → Moved (width binary64) (prec binary64) (fraction binary64 c.before.args.b)
-low c = subnormal binary64 _ c.before.requires.0 (omega (arith, c.if1.true))
+low : (c : tie.Then-exponent-eq0) → Moved (width binary64) (prec binary64) (fraction binary64 c.before.args.b)
+low c = subnormal binary64 _ c.before.requires.0 (omega (arith, c.if-exponent-eq0.true))
 
-few : tie.Need-overflow-cast-normal-root
+few : tie.Need-overflow_cast-z
 few c = let m = (low c).few in omega arith
 
-normal-root-requires : tie.Need-normal-root-requires
+normal-root-requires : tie.Need-normal_root-requires
 normal-root-requires c κs = let m = low c in (m.lo, m.hi, omega arith)
 
-normal-root-requires-2 : tie.Need-normal-root-requires-2
+normal-root-requires-2 : tie.Need-normal_root-requires-else-exponent-eq0
 normal-root-requires-2 c κs = let e = led binary64 c.before.args.b in (omega arith, omega arith, omega (arith, c.before.requires.1))
 
-pub positive-root-spec : {M : Type 1} → statement M
-positive-root-spec =
+pub positive_root_spec : {M : Type 1} → statement M
+positive_root_spec =
     tie.close
     (tie.spec
     (λ c. (low c).zeros)
@@ -30,5 +30,5 @@ positive-root-spec =
     normal-root-requires
     (λ c. search rules)
     normal-root-requires-2
-    (λ c. low_out binary64 _ c.before.before.requires.0 (omega (arith, c.before.if1.true)) c.normal-root.ensures)
-    (λ c. high_out binary64 _ (omega (arith, c.before.if1.false)) (omega arith) c.normal-root2.ensures))
+    (λ c. low_out binary64 _ c.before.before.requires.0 (omega (arith, c.before.if-exponent-eq0.true)) c.normal_root.ensures)
+    (λ c. high_out binary64 _ (omega (arith, c.before.if-exponent-eq0.false)) (omega arith) c.normal_root-else-exponent-eq0.ensures))

@@ -6,12 +6,12 @@ use native.Mathlib.Omega.{arith}
 use Rattle.root.proofs.product.Statement.{statement}
 use Rattle.root.proofs.product.Tie as tie
 
-mul-result : tie.Need-overflow-mul-result
+mul-result : tie.Need-overflow_mul-result
 mul-result c =
     let a : c.args.a % 2 ^ 32 ≤ 2 ^ 32 - 1 = omega arith in
     let b : c.args.b % 2 ^ 32 ≤ 2 ^ 32 - 1 = omega arith in
     let m = mul-le-mul a b in
     omega arith
 
-pub product-spec : {M : Type 1} → statement M
-product-spec = tie.close (tie.spec mul-result (λ c. search rules))
+pub product_spec : {M : Type 1} → statement M
+product_spec = tie.close (tie.spec mul-result (λ c. search rules))

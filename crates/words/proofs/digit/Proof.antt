@@ -7,44 +7,44 @@ use Rattle.words.proofs.Digits.{at_least}
 use Rattle.words.proofs.digit.Statement.{statement}
 use Rattle.words.proofs.digit.Tie as tie
 
-sub-result : tie.Need-overflow-sub-result
-sub-result c = at_least 48 57 _ (sym c.before.is-between.ensures ∙ c.if1.true)
+sub-result : tie.Need-overflow_sub-result
+sub-result c = at_least 48 57 _ (sym c.before.is_between.ensures ∙ c.if-is_between.true)
 
-returns : tie.Need-returns
+returns : tie.Need-returns-then-is_between
 unfolding digit_of
-returns c = rw (sym c.before.is-between.ensures ∙ c.if1.true)
+returns c = rw (sym c.before.is_between.ensures ∙ c.if-is_between.true)
 
-sub-result-2 : tie.Need-overflow-sub-result-2
-sub-result-2 c = omega (arith, at_least 97 102 c.before.before.before.before.args.c (sym c.before.is-between2.ensures ∙ c.if2.true))
+sub-result-2 : tie.Need-overflow_sub-result-then-is_between-2
+sub-result-2 c = omega (arith, at_least 97 102 c.before.before.before.before.args.c (sym c.before.is_between-2.ensures ∙ c.if-is_between-2.true))
 
-returns-2 : tie.Need-returns-2
+returns-2 : tie.Need-returns-then-is_between-2
 unfolding digit_of
 returns-2 c =
-    rw (sym c.before.before.before.is-between.ensures ∙ c.before.before.if1.false, sym c.before.is-between2.ensures ∙ c.if2.true)
+    rw (sym c.before.before.before.is_between.ensures ∙ c.before.before.if-is_between.false, sym c.before.is_between-2.ensures ∙ c.if-is_between-2.true)
 
-sub-result-3 : tie.Need-overflow-sub-result-3
-sub-result-3 c = omega (arith, at_least 65 70 c.before.before.before.before.before.before.args.c (sym c.before.is-between3.ensures ∙ c.if3.true))
+sub-result-3 : tie.Need-overflow_sub-result-then-is_between-3
+sub-result-3 c = omega (arith, at_least 65 70 c.before.before.before.before.before.before.args.c (sym c.before.is_between-3.ensures ∙ c.if-is_between-3.true))
 
-returns-3 : tie.Need-returns-3
+returns-3 : tie.Need-returns-then-is_between-3
 unfolding digit_of
 returns-3 c =
     rw (
-      sym c.before.before.before.before.before.is-between.ensures ∙ c.before.before.before.before.if1.false,
-      sym c.before.before.before.is-between2.ensures ∙ c.before.before.if2.false,
-      sym c.before.is-between3.ensures ∙ c.if3.true,
+      sym c.before.before.before.before.before.is_between.ensures ∙ c.before.before.before.before.if-is_between.false,
+      sym c.before.before.before.is_between-2.ensures ∙ c.before.before.if-is_between-2.false,
+      sym c.before.is_between-3.ensures ∙ c.if-is_between-3.true,
     )
 
-returns-4 : tie.Need-returns-4
+returns-4 : tie.Need-returns
 unfolding digit_of
 returns-4 c =
     rw (
-      sym c.before.before.before.before.before.is-between.ensures ∙ c.before.before.before.before.if1.false,
-      sym c.before.before.before.is-between2.ensures ∙ c.before.before.if2.false,
-      sym c.before.is-between3.ensures ∙ c.if3.false,
+      sym c.before.before.before.before.before.is_between.ensures ∙ c.before.before.before.before.if-is_between.false,
+      sym c.before.before.before.is_between-2.ensures ∙ c.before.before.if-is_between-2.false,
+      sym c.before.is_between-3.ensures ∙ c.if-is_between-3.false,
     )
 
-pub digit-spec : {M : Type 1} → statement M
-digit-spec =
+pub digit_spec : {M : Type 1} → statement M
+digit_spec =
     tie.close
     (tie.spec
     (λ c κs. search rules)

@@ -11,13 +11,13 @@ use Rattle.words.proofs.Bits.{nan_read, nan_made}
 use Rattle.words.proofs.float_of.Statement.{statement}
 use Rattle.words.proofs.float_of.Tie as tie
 
-returns : tie.Need-returns
-returns c = let b = c.before.args.b in nan_made binary64 ∙ sym (nan_read binary64 b (nan_bits_above binary64 b ∙ lt-ltb (ones binary64 * hid binary64) (b % top binary64) c.if1.true))
+returns : tie.Need-returns-then-b-gt9218868437227405312
+returns c = let b = c.before.args.b in nan_made binary64 ∙ sym (nan_read binary64 b (nan_bits_above binary64 b ∙ lt-ltb (ones binary64 * hid binary64) (b % top binary64) c.if-b-gt9218868437227405312.true))
 
-float-from-bits-result : tie.Need-float-from-bits-result
+float-from-bits-result : tie.Need-float_from_bits-result
 float-from-bits-result c =
     let b = c.before.args.b in
-    subst (λ (t : Bool). T (not t)) (sym (nan_bits_above binary64 b ∙ le-ltb (ones binary64 * hid binary64) (b % top binary64) c.if1.false)) tt
+    subst (λ (t : Bool). T (not t)) (sym (nan_bits_above binary64 b ∙ le-ltb (ones binary64 * hid binary64) (b % top binary64) c.if-b-gt9218868437227405312.false)) tt
 
-pub float-of-spec : {M : Type 1} → statement M
-float-of-spec = tie.close (tie.spec returns float-from-bits-result (λ c. search rules))
+pub float_of_spec : {M : Type 1} → statement M
+float_of_spec = tie.close (tie.spec returns float-from-bits-result (λ c. search rules))

@@ -9,47 +9,47 @@ use native.Mathlib.Omega.{arith}
 use Rattle.matrix.proofs.inverse.columns.Statement.{statement}
 use Rattle.matrix.proofs.inverse.columns.Tie as tie
 
-abbrev invariant-loop2 : tie.invariant-loop2
-invariant-loop2 l m out₀ c v i₀ out i = (i ≤ m) × (v ≡ backward_of binary64 l m (forward_of binary64 l m c)) × Row (column_at binary64 l m) m (zeros 64) c i out
+abbrev invariant-loop-i : tie.invariant-loop-i
+invariant-loop-i l m out₀ c v i₀ out i = (i ≤ m) × (v ≡ backward_of binary64 l m (forward_of binary64 l m c)) × Row (column_at binary64 l m) m (zeros 64) c i out
 
-abbrev decreases-loop2 : tie.decreases-loop2
-decreases-loop2 l m out₀ c v i₀ out i = m - i
+abbrev decreases-loop-i : tie.decreases-loop-i
+decreases-loop-i l m out₀ c v i₀ out i = m - i
 
-abbrev invariant-loop : tie.invariant-loop
-invariant-loop l m out₀ c₀ out c = (c ≤ m) × Rows (column_at binary64 l m) m (zeros 64) c out
+abbrev invariant-loop-c : tie.invariant-loop-c
+invariant-loop-c l m out₀ c₀ out c = (c ≤ m) × Rows (column_at binary64 l m) m (zeros 64) c out
 
-abbrev decreases-loop : tie.decreases-loop
-decreases-loop l m out₀ c₀ out c = m - c
+abbrev decreases-loop-c : tie.decreases-loop-c
+decreases-loop-c l m out₀ c₀ out c = m - c
 
-loop-holds : tie.Need-loop-init invariant-loop2 decreases-loop2 invariant-loop decreases-loop
+loop-holds : tie.Need-loop-c-init invariant-loop-i decreases-loop-i invariant-loop-c decreases-loop-c
 unfolding of_bits zeros
 loop-holds c = (omega arith, rows_none)
 
-loop2-holds : tie.Need-loop2-init invariant-loop2 decreases-loop2 invariant-loop decreases-loop
-loop2-holds c = (omega arith, rw (← c.before.forward.ensures) c.backward.ensures, row_none c.before.before.before.loop.invariant.1)
+loop2-holds : tie.Need-loop-i-init invariant-loop-i decreases-loop-i invariant-loop-c decreases-loop-c
+loop2-holds c = (omega arith, rw (← c.forward-u.ensures) c.backward-v.ensures, row_none c.loop-c.invariant.1)
 
-cell-requires : tie.Need-cell-requires invariant-loop2 decreases-loop2 invariant-loop decreases-loop
+cell-requires : tie.Need-cell-at-requires invariant-loop-i decreases-loop-i invariant-loop-c decreases-loop-c
 cell-requires c κs = (omega arith, omega arith, omega arith)
 
-loop2-again : tie.Need-loop2-preserved invariant-loop2 decreases-loop2 invariant-loop decreases-loop
+loop2-again : tie.Need-loop-i-preserved invariant-loop-i decreases-loop-i invariant-loop-c decreases-loop-c
 loop2-again c =
-    let at = c.before.before.loop2.invariant in
-    (omega arith, at.1, row_more at.2 c.cell.ensures.0 (rw at.1))
+    let at = c.loop-i.invariant in
+    (omega arith, at.1, row_more at.2 c.cell-at.ensures.0 (rw at.1))
 
-loop-again : tie.Need-loop-preserved invariant-loop2 decreases-loop2 invariant-loop decreases-loop
-loop-again c = (omega arith, row_end c.before.loop2.invariant.2 (omega arith))
+loop-again : tie.Need-loop-c-preserved invariant-loop-i decreases-loop-i invariant-loop-c decreases-loop-c
+loop-again c = (omega arith, row_end c.loop-i.invariant.2 (omega arith))
 
-returns : tie.Need-returns invariant-loop2 decreases-loop2 invariant-loop decreases-loop
-returns c = rows_end c.before.loop.invariant.1 (omega arith)
+returns : tie.Need-returns invariant-loop-i decreases-loop-i invariant-loop-c decreases-loop-c
+returns c = rows_end c.loop-c.invariant.1 (omega arith)
 
 pub columns_spec : {M : Type 1} → statement M
 columns_spec =
     tie.close
     (tie.spec
-    invariant-loop2
-    decreases-loop2
-    invariant-loop
-    decreases-loop
+    invariant-loop-i
+    decreases-loop-i
+    invariant-loop-c
+    decreases-loop-c
     loop-holds
     (λ c κs. omega arith)
     (λ c κs. omega arith)

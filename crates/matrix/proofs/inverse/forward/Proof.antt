@@ -9,31 +9,31 @@ use native.Mathlib.Omega.{arith}
 use Rattle.matrix.proofs.inverse.forward.Statement.{statement}
 use Rattle.matrix.proofs.inverse.forward.Tie as tie
 
-abbrev invariant-loop : tie.invariant-loop
-invariant-loop l m c u₀ i₀ u i = (i ≤ m) × Built (λ (j : ℕ). j) (forward_at binary64 l m c) (zeros 8) i u
+abbrev invariant-loop-i : tie.invariant-loop-i
+invariant-loop-i l m c u₀ i₀ u i = (i ≤ m) × Built (λ (j : ℕ). j) (forward_at binary64 l m c) (zeros 8) i u
 
-abbrev decreases-loop : tie.decreases-loop
-decreases-loop l m c u₀ i₀ u i = m - i
+abbrev decreases-loop-i : tie.decreases-loop-i
+decreases-loop-i l m c u₀ i₀ u i = m - i
 
-loop-holds : tie.Need-loop-init invariant-loop decreases-loop
+loop-holds : tie.Need-loop-i-init invariant-loop-i decreases-loop-i
 unfolding of_bits zeros
 loop-holds c = (omega arith, built_none)
 
-forward-at-requires : tie.Need-forward-at-requires invariant-loop decreases-loop
+forward-at-requires : tie.Need-forward_at-e-requires invariant-loop-i decreases-loop-i
 forward-at-requires c κs = (omega arith, omega arith)
 
-loop-again : tie.Need-loop-preserved invariant-loop decreases-loop
-loop-again c = (omega arith, built_more c.before.before.before.loop.invariant.1 refl c.forward-at.ensures)
+loop-again : tie.Need-loop-i-preserved invariant-loop-i decreases-loop-i
+loop-again c = (omega arith, built_more c.loop-i.invariant.1 refl c.forward_at-e.ensures)
 
-returns : tie.Need-returns invariant-loop decreases-loop
-returns c = built_end c.before.loop.invariant.1 (omega arith)
+returns : tie.Need-returns invariant-loop-i decreases-loop-i
+returns c = built_end c.loop-i.invariant.1 (omega arith)
 
-pub forward-spec : {M : Type 1} → statement M
-forward-spec =
+pub forward_spec : {M : Type 1} → statement M
+forward_spec =
     tie.close
     (tie.spec
-    invariant-loop
-    decreases-loop
+    invariant-loop-i
+    decreases-loop-i
     loop-holds
     forward-at-requires
     (λ c. omega arith)

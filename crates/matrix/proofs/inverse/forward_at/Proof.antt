@@ -9,35 +9,35 @@ use native.Mathlib.Omega.{arith}
 use Rattle.matrix.proofs.inverse.forward_at.Statement.{statement}
 use Rattle.matrix.proofs.inverse.forward_at.Tie as tie
 
-abbrev invariant-loop : tie.invariant-loop
-invariant-loop l m c u i s₀ k₀ s k = (k ≤ i) × Total (sub binary64) (unit_at binary64 c i) (λ (j : ℕ). mul binary64 (get_or l (i * m + j) nan) (get_or u j nan)) k s
+abbrev invariant-loop-k : tie.invariant-loop-k
+invariant-loop-k l m c u i s₀ k₀ s k = (k ≤ i) × Total (sub binary64) (unit_at binary64 c i) (λ (j : ℕ). mul binary64 (get_or l (i * m + j) nan) (get_or u j nan)) k s
 
-abbrev decreases-loop : tie.decreases-loop
-decreases-loop l m c u i s₀ k₀ s k = i - k
+abbrev decreases-loop-k : tie.decreases-loop-k
+decreases-loop-k l m c u i s₀ k₀ s k = i - k
 
-loop-holds : tie.Need-loop-init invariant-loop decreases-loop
-loop-holds c = (omega arith, total_from c.unit.ensures)
+loop-holds : tie.Need-loop-k-init invariant-loop-k decreases-loop-k
+loop-holds c = (omega arith, total_from c.unit-s.ensures)
 
-cell-requires : tie.Need-cell-requires invariant-loop decreases-loop
+cell-requires : tie.Need-cell-at-requires invariant-loop-k decreases-loop-k
 cell-requires c κs = (omega arith, omega arith, omega arith)
 
-loop-again : tie.Need-loop-preserved invariant-loop decreases-loop
-loop-again c = (omega arith, total_more c.before.before.before.before.loop.invariant.1 (rw (← c.before.before.cell.ensures.0)))
+loop-again : tie.Need-loop-k-preserved invariant-loop-k decreases-loop-k
+loop-again c = (omega arith, total_more c.loop-k.invariant.1 (rw (← c.cell-at.ensures.0)))
 
-cell-requires-2 : tie.Need-cell-requires-2 invariant-loop decreases-loop
+cell-requires-2 : tie.Need-cell-d-requires invariant-loop-k decreases-loop-k
 cell-requires-2 c κs = (omega arith, omega arith, omega arith)
 
-returns : tie.Need-returns invariant-loop decreases-loop
+returns : tie.Need-returns invariant-loop-k decreases-loop-k
 returns c =
-    let e : c.before.before.before.loop.k ≡ c.before.before.before.before.before.args.i = omega arith in
-    rw (total_end c.before.before.before.loop.invariant.1 e, c.before.cell2.ensures.0)
+    let e : c.loop-k.k ≡ c.args.i = omega arith in
+    rw (total_end c.loop-k.invariant.1 e, c.cell-d.ensures.0)
 
-pub forward-at-spec : {M : Type 1} → statement M
-forward-at-spec =
+pub forward_at_spec : {M : Type 1} → statement M
+forward_at_spec =
     tie.close
     (tie.spec
-    invariant-loop
-    decreases-loop
+    invariant-loop-k
+    decreases-loop-k
     (λ c κs. tt)
     loop-holds
     cell-requires

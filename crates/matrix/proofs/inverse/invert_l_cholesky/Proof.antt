@@ -9,50 +9,50 @@ use native.Mathlib.Omega.{arith}
 use Rattle.matrix.proofs.inverse.invert_l_cholesky.Statement.{statement}
 use Rattle.matrix.proofs.inverse.invert_l_cholesky.Tie as tie
 
-abbrev invariant-loop2 : tie.invariant-loop2
-invariant-loop2 l m w out₀ i c₀ out c = (c ≤ m) × Filled (column_at binary64 l m) m m 64 w × Row (λ (r s : ℕ). column_at binary64 l m s r) m (zeros 64) i c out
+abbrev invariant-loop-c : tie.invariant-loop-c
+invariant-loop-c l m w out₀ i c₀ out c = (c ≤ m) × Filled (column_at binary64 l m) m m 64 w × Row (λ (r s : ℕ). column_at binary64 l m s r) m (zeros 64) i c out
 
-abbrev decreases-loop2 : tie.decreases-loop2
-decreases-loop2 l m w out₀ i c₀ out c = m - c
+abbrev decreases-loop-c : tie.decreases-loop-c
+decreases-loop-c l m w out₀ i c₀ out c = m - c
 
-abbrev invariant-loop : tie.invariant-loop
-invariant-loop l m w out₀ i₀ out i = (i ≤ m) × Filled (column_at binary64 l m) m m 64 w × Rows (λ (r s : ℕ). column_at binary64 l m s r) m (zeros 64) i out
+abbrev invariant-loop-i : tie.invariant-loop-i
+invariant-loop-i l m w out₀ i₀ out i = (i ≤ m) × Filled (column_at binary64 l m) m m 64 w × Rows (λ (r s : ℕ). column_at binary64 l m s r) m (zeros 64) i out
 
-abbrev decreases-loop : tie.decreases-loop
-decreases-loop l m w out₀ i₀ out i = m - i
+abbrev decreases-loop-i : tie.decreases-loop-i
+decreases-loop-i l m w out₀ i₀ out i = m - i
 
-loop-holds : tie.Need-loop-init invariant-loop2 decreases-loop2 invariant-loop decreases-loop
+loop-holds : tie.Need-loop-i-init invariant-loop-c decreases-loop-c invariant-loop-i decreases-loop-i
 unfolding of_bits zeros
-loop-holds c = (omega arith, rw c.columns.ensures (matrix_filled _ _ _ (omega arith) (omega arith)), rows_none)
+loop-holds c = (omega arith, rw c.columns-w.ensures (matrix_filled _ _ _ (omega arith) (omega arith)), rows_none)
 
-loop2-holds : tie.Need-loop2-init invariant-loop2 decreases-loop2 invariant-loop decreases-loop
-loop2-holds c = let at = c.before.loop.invariant in (omega arith, at.1, row_none at.2)
+loop2-holds : tie.Need-loop-c-init invariant-loop-c decreases-loop-c invariant-loop-i decreases-loop-i
+loop2-holds c = let at = c.loop-i.invariant in (omega arith, at.1, row_none at.2)
 
-cell-requires : tie.Need-cell-requires invariant-loop2 decreases-loop2 invariant-loop decreases-loop
+cell-requires : tie.Need-cell-at-requires invariant-loop-c decreases-loop-c invariant-loop-i decreases-loop-i
 cell-requires c κs = (omega arith, omega arith, omega arith)
 
-cell-requires-2 : tie.Need-cell-requires-2 invariant-loop2 decreases-loop2 invariant-loop decreases-loop
+cell-requires-2 : tie.Need-cell-from-requires invariant-loop-c decreases-loop-c invariant-loop-i decreases-loop-i
 cell-requires-2 c κs = (omega arith, omega arith, omega arith)
 
-loop2-again : tie.Need-loop2-preserved invariant-loop2 decreases-loop2 invariant-loop decreases-loop
+loop2-again : tie.Need-loop-c-preserved invariant-loop-c decreases-loop-c invariant-loop-i decreases-loop-i
 loop2-again c =
-    let at = c.before.before.before.loop2.invariant in
-    (omega arith, at.1, row_more at.2 c.before.cell.ensures.0 (rw c.cell2.ensures.0 (at.1.cell _ _ (omega arith) (omega arith))))
+    let at = c.loop-c.invariant in
+    (omega arith, at.1, row_more at.2 c.cell-at.ensures.0 (rw c.cell-from.ensures.0 (at.1.cell _ _ (omega arith) (omega arith))))
 
-loop-again : tie.Need-loop-preserved invariant-loop2 decreases-loop2 invariant-loop decreases-loop
-loop-again c = let at = c.before.loop2.invariant in (omega arith, at.1, row_end at.2 (omega arith))
+loop-again : tie.Need-loop-i-preserved invariant-loop-c decreases-loop-c invariant-loop-i decreases-loop-i
+loop-again c = let at = c.loop-c.invariant in (omega arith, at.1, row_end at.2 (omega arith))
 
-returns : tie.Need-returns invariant-loop2 decreases-loop2 invariant-loop decreases-loop
-returns c = rows_end c.before.loop.invariant.2 (omega arith)
+returns : tie.Need-returns invariant-loop-c decreases-loop-c invariant-loop-i decreases-loop-i
+returns c = rows_end c.loop-i.invariant.2 (omega arith)
 
-pub invert-l-cholesky-spec : {M : Type 1} → statement M
-invert-l-cholesky-spec =
+pub invert_l_cholesky_spec : {M : Type 1} → statement M
+invert_l_cholesky_spec =
     tie.close
     (tie.spec
-    invariant-loop2
-    decreases-loop2
-    invariant-loop
-    decreases-loop
+    invariant-loop-c
+    decreases-loop-c
+    invariant-loop-i
+    decreases-loop-i
     (λ c κs. omega arith)
     loop-holds
     loop2-holds

@@ -3,5 +3,5 @@ use borrow.Author.Rules.{rules}
 use Rattle.matrix.proofs.pivots.refused_by.Statement.{statement}
 use Rattle.matrix.proofs.pivots.refused_by.Tie as tie
 
-pub refused-by-spec : {M : Type 1} → statement M
-refused-by-spec = tie.close (tie.spec (λ c. search rules) (λ c. search rules) (λ c. rw c.enum_told.given.1) (λ c. rw c.enum-told2.given.1))
+pub refused_by_spec : {M : Type 1} → statement M
+refused_by_spec = tie.close (tie.spec (λ c. search rules) (λ c. search rules) (λ c. rw c.in-OfP.is) (λ c. rw c.in-OfS.is))

@@ -9,28 +9,28 @@ use Rattle.matrix.proofs.Turns.{Total, total_none, total_more, total_end}
 use Rattle.matrix.proofs.sums.dot.Statement.{statement}
 use Rattle.matrix.proofs.sums.dot.Tie as tie
 
-abbrev invariant-loop : tie.invariant-loop
-invariant-loop x r y s n t₀ k₀ t k = (k ≤ n) × Total (add binary64) plus_zero (product_at binary64 x r y s) k t
+abbrev invariant-loop-k : tie.invariant-loop-k
+invariant-loop-k x r y s n t₀ k₀ t k = (k ≤ n) × Total (add binary64) plus_zero (product_at binary64 x r y s) k t
 
-abbrev decreases-loop : tie.decreases-loop
-decreases-loop x r y s n t₀ k₀ t k = n - k
+abbrev decreases-loop-k : tie.decreases-loop-k
+decreases-loop-k x r y s n t₀ k₀ t k = n - k
 
-loop-holds : tie.Need-loop-init invariant-loop decreases-loop
+loop-holds : tie.Need-loop-k-init invariant-loop-k decreases-loop-k
 unfolding of_bits
 loop-holds c = (omega arith, total_none)
 
-loop-again : tie.Need-loop-preserved invariant-loop decreases-loop
-loop-again c = (omega arith, total_more c.before.before.before.loop.invariant.1 refl)
+loop-again : tie.Need-loop-k-preserved invariant-loop-k decreases-loop-k
+loop-again c = (omega arith, total_more c.loop-k.invariant.1 refl)
 
-returns : tie.Need-returns invariant-loop decreases-loop
-returns c = total_end c.before.loop.invariant.1 (omega arith)
+returns : tie.Need-returns invariant-loop-k decreases-loop-k
+returns c = total_end c.loop-k.invariant.1 (omega arith)
 
-pub dot-spec : {M : Type 1} → statement M
-dot-spec =
+pub dot_spec : {M : Type 1} → statement M
+dot_spec =
     tie.close
     (tie.spec
-    invariant-loop
-    decreases-loop
+    invariant-loop-k
+    decreases-loop-k
     loop-holds
     (λ c. omega arith)
     (λ c. omega arith)

@@ -8,27 +8,27 @@ use Rattle.matrix.proofs.Turns.{Total, total_none, total_more, total_end}
 use Rattle.matrix.proofs.sums.less.Statement.{statement}
 use Rattle.matrix.proofs.sums.less.Tie as tie
 
-abbrev invariant-loop : tie.invariant-loop
-invariant-loop a l r s n t₀ k₀ t k = (k ≤ n) × Total (sub binary64) a (product_at binary64 l r l s) k t
+abbrev invariant-loop-k : tie.invariant-loop-k
+invariant-loop-k a l r s n t₀ k₀ t k = (k ≤ n) × Total (sub binary64) a (product_at binary64 l r l s) k t
 
-abbrev decreases-loop : tie.decreases-loop
-decreases-loop a l r s n t₀ k₀ t k = n - k
+abbrev decreases-loop-k : tie.decreases-loop-k
+decreases-loop-k a l r s n t₀ k₀ t k = n - k
 
-loop-holds : tie.Need-loop-init invariant-loop decreases-loop
+loop-holds : tie.Need-loop-k-init invariant-loop-k decreases-loop-k
 loop-holds c = (omega arith, total_none)
 
-loop-again : tie.Need-loop-preserved invariant-loop decreases-loop
-loop-again c = (omega arith, total_more c.before.before.before.loop.invariant.1 refl)
+loop-again : tie.Need-loop-k-preserved invariant-loop-k decreases-loop-k
+loop-again c = (omega arith, total_more c.loop-k.invariant.1 refl)
 
-returns : tie.Need-returns invariant-loop decreases-loop
-returns c = total_end c.before.loop.invariant.1 (omega arith)
+returns : tie.Need-returns invariant-loop-k decreases-loop-k
+returns c = total_end c.loop-k.invariant.1 (omega arith)
 
-pub less-spec : {M : Type 1} → statement M
-less-spec =
+pub less_spec : {M : Type 1} → statement M
+less_spec =
     tie.close
     (tie.spec
-    invariant-loop
-    decreases-loop
+    invariant-loop-k
+    decreases-loop-k
     loop-holds
     (λ c. omega arith)
     (λ c. omega arith)
