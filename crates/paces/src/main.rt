@@ -1,9 +1,12 @@
 // The same prediction and correction again and again, to be timed from outside (docs/RUNS.md). Reads how many rounds, a word of 16 hex digits and a newline,
 // and writes the bits of x after them: for 8 states with 4 measurements, then for 3 with 2. oracle/src/bin/paces.rs does the same with the published Rust.
+#![tactic(auto)]
+
 use angles::{Kind, Residual};
 use filter::Filter;
-use libc::{STDIN_FILENO, STDOUT_FILENO};
 use sigma::Params;
+use std::io;
+use std::io::{ErrorKind, Read};
 use words::Word;
 
 // Numbers from 0 to 15 in a fixed disorder.
@@ -80,28 +83,36 @@ fn run(n: usize, m: usize, rounds: u64) -> Filter {
 }
 
 // The first k numbers of s, as far as it has them, a line each.
-fn put(s: &[f64], k: usize) {
+fn put(rt: &impl Print, s: &[f64], k: usize) -> io::Result<()> {
     let mut i = 0usize;
     while i < k {
         if i >= s.len() {
-            return;
+            return Ok(());
         }
-        io::print_hex(STDOUT_FILENO, words::bits_of(s[i]), 16);
-        io::write_all(STDOUT_FILENO, b"\n");
+        println!(rt; "{:016x}", words::bits_of(s[i]))?;
         i += 1;
+    }
+    Ok(())
+}
+
+// Reads until line is full or the input ends.
+fn read_line(input: &mut impl Read, line: &mut [u8; 17]) -> io::Result<()> {
+    match input.read_exact(line) {
+        Err(e) if e.kind() != ErrorKind::UnexpectedEof => Err(e),
+        _ => Ok(()),
     }
 }
 
-fn main() {
+fn main(rt: HostRuntime) -> io::Result<()> {
     let mut line = [0u8; 17];
-    io::read_full(STDIN_FILENO, &mut line);
+    read_line(&mut rt.reader(), &mut line)?;
     let Word::Bits(rounds) = words::word_at(&line, 0) else {
-        return;
+        return Ok(());
     };
     let large = run(8, 4, rounds);
     let x = large.track.x;
-    put(&x, 8);
+    put(&rt, &x, 8)?;
     let small = run(3, 2, rounds);
     let y = small.track.x;
-    put(&y, 3);
+    put(&rt, &y, 3)
 }

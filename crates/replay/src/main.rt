@@ -1,5 +1,9 @@
 // Reads a script of calls on standard input and writes the answers to standard output, from an empty filter, pair and filter at f32 on.
+#![tactic(auto)]
 
-fn main() {
-    runs::run(lines::start());
+use std::io;
+
+fn main(rt: HostRuntime) -> io::Result<()> {
+    runs::run(&rt, lines::start())?;
+    Ok(())
 }

@@ -1,10 +1,13 @@
 // A script of calls on standard input, run on a filter, on a pair and on a filter at f32, with the answers on standard output: what the programs `replay` and `shift` share.
 // The input is read in pieces; a line is gathered from them and answered, and what the answers gather is written once the lines of a piece are done.
+#![tactic(auto)]
+
 use filter32::Filter;
-use libc::{STDIN_FILENO, STDOUT_FILENO};
 use lines::answers;
 use lines::held::Held;
 use script::Name;
+use std::io;
+use std::io::Read;
 
 // What the lines so far have left: the filter and the pair, the f32 filter, and how many bytes of answers wait.
 #[derive(Clone, Copy)]
@@ -93,21 +96,21 @@ fn answer(left: Left, line: &[u8], len: usize, out: &mut [u8]) -> Left {
 }
 
 // Writes what waits.
-fn flush(out: &[u8], used: usize) -> usize {
-    io::write_all(STDOUT_FILENO, script::first(out, used));
-    0
+fn flush(rt: &impl Print, out: &[u8], used: usize) -> io::Result<usize> {
+    rt.write_all(script::first(out, used))?;
+    Ok(0)
 }
 
 // Writes what waits where it may leave no room for another answer.
-fn make_room(out: &[u8], used: usize) -> usize {
+fn make_room(rt: &impl Print, out: &[u8], used: usize) -> io::Result<usize> {
     if used < 32768 {
-        return used;
+        return Ok(used);
     }
-    flush(out, used)
+    flush(rt, out, used)
 }
 
 // Answers a line that has come to its end.
-fn end_line(run: Progress, line: &[u8], out: &mut [u8]) -> Progress {
+fn end_line(rt: &impl Print, run: Progress, line: &[u8], out: &mut [u8]) -> io::Result<Progress> {
     let held = run.held;
     let narrow = run.narrow;
     let left = Left {
@@ -118,72 +121,97 @@ fn end_line(run: Progress, line: &[u8], out: &mut [u8]) -> Progress {
     let left = answer(left, line, run.line, out);
     let held = left.held;
     let narrow = left.narrow;
-    Progress {
+    Ok(Progress {
         held,
         narrow,
         line: 0,
-        used: make_room(out, left.used),
+        used: make_room(rt, out, left.used)?,
         going: run.going,
-    }
+    })
 }
 
 // What a piece has of a line, after what is there of it; an ended line is answered.
-fn take_line(run: Progress, part: &[u8], ended: bool, line: &mut [u8], out: &mut [u8]) -> Progress {
+fn take_line(
+    rt: &impl Print,
+    run: Progress,
+    part: &[u8],
+    ended: bool,
+    line: &mut [u8],
+    out: &mut [u8],
+) -> io::Result<Progress> {
     let mut next = run;
     next.line = script::gather(line, run.line, part);
     if ended {
-        return end_line(next, line, out);
+        return end_line(rt, next, line, out);
     }
-    next
+    Ok(next)
 }
 
 // The lines of a piece; what is left of it is the start of the next line.
-fn take_piece(run: Progress, piece: &[u8], line: &mut [u8], out: &mut [u8]) -> Progress {
+fn take_piece(
+    rt: &impl Print,
+    run: Progress,
+    piece: &[u8],
+    line: &mut [u8],
+    out: &mut [u8],
+) -> io::Result<Progress> {
     let mut next = run;
     let mut at = 0usize;
     while at < piece.len() {
         let end = script::line_end(piece, at);
-        next = take_line(next, &piece[at..end], end < piece.len(), line, out);
+        next = take_line(rt, next, &piece[at..end], end < piece.len(), line, out)?;
         at = end + 1;
     }
-    next
+    Ok(next)
 }
 
 // Reads a piece and answers its lines, or, at the end of the input, a last line without its newline.
-fn read_piece(run: Progress, piece: &mut [u8], line: &mut [u8], out: &mut [u8]) -> Progress {
-    let got = io::count(libc::read(STDIN_FILENO, piece), piece);
+fn read_piece(
+    rt: &impl Print,
+    input: &mut impl Read,
+    run: Progress,
+    piece: &mut [u8],
+    line: &mut [u8],
+    out: &mut [u8],
+) -> io::Result<Progress> {
+    let got = input.read(piece)?;
     if got == 0 {
-        let mut last = end_line(run, line, out);
-        last.used = flush(out, last.used);
+        let mut last = end_line(rt, run, line, out)?;
+        last.used = flush(rt, out, last.used)?;
         last.going = false;
-        return last;
+        return Ok(last);
     }
-    let mut next = take_piece(run, script::first(piece, got), line, out);
-    next.used = flush(out, next.used);
-    next
+    let mut next = take_piece(rt, run, script::first(piece, got), line, out)?;
+    next.used = flush(rt, out, next.used)?;
+    Ok(next)
 }
 
 // The same on the arrays of run.
 fn step(
+    rt: &impl Print,
+    input: &mut impl Read,
     run: Progress,
     piece: &mut [u8; 65536],
     line: &mut [u8; 16385],
     out: &mut [u8; 65536],
-) -> Progress {
-    read_piece(run, piece, line, out)
+) -> io::Result<Progress> {
+    read_piece(rt, input, run, piece, line, out)
 }
 
 // The whole script, from what is held before its first line to what is held after its last; the f32 filter is empty at first.
-// A proved loop has to end, and nothing says that the input does: the turns are counted down from a number that no run uses up.
-pub fn run(held: Held) -> Held {
+// A read or a write that fails ends it there, and what the lines so far have left is gone.
+// A proved loop has to end, and nothing says that the input does: the turns are counted up to a number that no run reaches.
+pub fn run(rt: &(impl Input + Print), held: Held) -> io::Result<Held> {
+    let mut input = rt.reader();
     let mut piece = [0u8; 65536];
     let mut line = [0u8; 16385];
     let mut out = [0u8; 65536];
     let mut run = start(held);
-    let mut turns = u64::MAX;
-    while turns > 0 && run.going {
-        run = step(run, &mut piece, &mut line, &mut out);
-        turns -= 1;
+    for _ in 0..u64::MAX {
+        if !run.going {
+            break;
+        }
+        run = step(rt, &mut input, run, &mut piece, &mut line, &mut out)?;
     }
-    run.held
+    Ok(run.held)
 }

@@ -1,5 +1,11 @@
 // A file that is read, and one that is written whole or not at all.
 use crate::told;
+use arrayvec::ArrayString;
+use std::fs::{Files, OpenFile, OpenOptions, Permissions};
+use std::io::{ErrorKind, Read, Write};
+use std::os::unix::fs::{OpenOptionsExt, PermissionsExt};
+use std::random::RandomSource;
+use std::{fs, io};
 
 // How many bytes were read, and whether that went well.
 #[derive(Clone, Copy)]
@@ -9,75 +15,126 @@ pub struct Got {
 }
 
 // What the file holds, as far as the bytes that are lent go.
-pub fn read(path: &[u8], bytes: &mut [u8]) -> Got {
-    let fd = os::open_read(path);
-    if fd < 0 {
-        told::failed(path);
-        return Got {
-            is_read: false,
-            len: 0,
-        };
+pub fn read(rt: &(impl Files + Eprint), path: &str, bytes: &mut [u8]) -> Got {
+    match read_once(rt, path, bytes) {
+        Ok(len) => Got { is_read: true, len },
+        Err(e) => {
+            told::failed(rt, path, e);
+            Got {
+                is_read: false,
+                len: 0,
+            }
+        }
     }
-    let got = libc::read(fd, bytes);
-    if got < 0 {
-        told::failed(path);
-    }
-    libc::close(fd);
-    Got {
-        is_read: 0 <= got,
-        len: io::count(got, bytes),
-    }
+}
+
+// The same by one read; how many bytes were put at the front of those that are lent.
+fn read_once(rt: &impl Files, path: &str, bytes: &mut [u8]) -> io::Result<usize> {
+    fs::open(rt, path)?.read(bytes)
 }
 
 // Whether there is no file of that name; else it is told why not. One that is there and can't be read is not missing.
-pub fn is_missing(path: &[u8]) -> bool {
-    let fd = os::open_read(path);
-    if fd < 0 {
-        if os::errno() == libc::ENOENT {
-            return true;
+pub fn is_missing(rt: &(impl Files + Eprint), path: &str) -> bool {
+    match fs::open(rt, path) {
+        Ok(_) => {
+            told::there_already(rt, path);
+            false
         }
-        told::failed(path);
-        return false;
+        Err(e) => {
+            if e.kind() == ErrorKind::NotFound {
+                return true;
+            }
+            told::failed(rt, path, e);
+            false
+        }
     }
-    libc::close(fd);
-    told::there_already(path);
-    false
 }
 
 // The bytes to an open file and down to its device; the file is closed either way. It is readable to all, as a file made anew is.
-fn fill(fd: i32, name: &[u8], bytes: &[u8]) -> bool {
-    libc::fchmod(fd, 0o644);
-    if !io::write_all(fd, bytes) {
-        told::failed(name);
-        libc::close(fd);
-        return false;
-    }
-    if libc::fsync(fd) < 0 {
-        told::failed(name);
-        libc::close(fd);
-        return false;
-    }
-    if libc::close(fd) < 0 {
-        told::failed(name);
-        return false;
-    }
-    true
+fn fill(mut file: impl Write + OpenFile + Drop, bytes: &[u8]) -> io::Result<()> {
+    let _ = file.set_permissions(Permissions::from_mode(0o644));
+    file.write_all(bytes)?;
+    file.sync_all()
 }
 
-// By way of a new file whose name is the first one, of which the last six bytes are filled in here.
-fn replace_by(name: &mut [u8], path: &[u8], bytes: &[u8]) -> bool {
-    let fd = os::create_temp(name);
-    if fd < 0 {
-        told::failed(name);
+// A path of 4096 bytes, a dot and six characters more.
+type Name = ArrayString<4104>;
+
+// A file's name, a dot and six characters; none where that is too long.
+fn beside(path: &str, six: &str) -> Option<Name> {
+    let mut name = Name::new();
+    name.try_push_str(path).ok()?;
+    name.try_push_str(".").ok()?;
+    name.try_push_str(six).ok()?;
+    Some(name)
+}
+
+// One of the 62 letters and digits.
+fn character(b: u8) -> char {
+    let characters = b"0123456789ABCDEFGHIJKLMNOPQRSTUVWXYZabcdefghijklmnopqrstuvwxyz";
+    char::from(characters[(b % 62) as usize])
+}
+
+// Six of them by chance.
+fn six_characters(rt: &impl RandomSource) -> io::Result<ArrayString<6>> {
+    let mut bytes = [0u8; 6];
+    rt.fill_bytes(&mut bytes)?;
+    let mut six = ArrayString::<6>::new();
+    for b in bytes {
+        let _ = six.try_push(character(b));
+    }
+    Ok(six)
+}
+
+// How many names are tried: 62 * 62 * 62, as by mkstemp of the C library.
+const TRIES: u32 = 238_328;
+
+// A new file beside that of the path, open for writing, and its name. It is its owner's alone until it is filled.
+fn create_temp<R: Files + RandomSource>(rt: &R, path: &str) -> io::Result<(R::File, Name)> {
+    let mut refused = io::Error::from(ErrorKind::AlreadyExists);
+    for _ in 0..TRIES {
+        let six = six_characters(rt)?;
+        let Some(name) = beside(path, six.as_str()) else {
+            return Err(io::Error::from(ErrorKind::InvalidFilename));
+        };
+        match OpenOptions::new()
+            .write(true)
+            .create_new(true)
+            .mode(0o600)
+            .open(rt, name.as_str())
+        {
+            Ok(file) => return Ok((file, name)),
+            Err(e) => refused = e,
+        }
+        if refused.kind() != ErrorKind::AlreadyExists {
+            return Err(refused);
+        }
+    }
+    Err(refused)
+}
+
+// By way of a new file beside it; one that can't be made is told by the name that is lent.
+fn replace_by(
+    rt: &(impl Files + RandomSource + Eprint),
+    any: &str,
+    path: &str,
+    bytes: &[u8],
+) -> bool {
+    let (file, name) = match create_temp(rt, path) {
+        Ok(made) => made,
+        Err(e) => {
+            told::failed(rt, any, e);
+            return false;
+        }
+    };
+    if let Err(e) = fill(file, bytes) {
+        told::failed(rt, name.as_str(), e);
+        let _ = fs::remove_file(rt, name.as_str());
         return false;
     }
-    if !fill(fd, name, bytes) {
-        os::unlink(name);
-        return false;
-    }
-    if os::rename(name, path) < 0 {
-        told::failed(path);
-        os::unlink(name);
+    if let Err(e) = fs::rename(rt, name.as_str(), path) {
+        told::failed(rt, path, e);
+        let _ = fs::remove_file(rt, name.as_str());
         return false;
     }
     true
@@ -97,38 +154,33 @@ fn folder_end(path: &[u8]) -> usize {
 }
 
 // The folder too has to reach its device: until then a loss of power may bring the old file back.
-fn sync_folder(folder: &[u8]) {
-    let fd = os::open_read(folder);
-    if fd < 0 {
-        told::failed(folder);
-        return;
+fn sync_folder(rt: &(impl Files + Eprint), folder: &str) {
+    if let Err(e) = sync(rt, folder) {
+        told::failed(rt, folder, e);
     }
-    if libc::fsync(fd) < 0 {
-        told::failed(folder);
-    }
-    libc::close(fd);
 }
 
-fn sync_folder_of(path: &[u8]) {
-    let end = folder_end(path);
-    if end == 0 {
-        return sync_folder(b".");
+fn sync(rt: &impl Files, folder: &str) -> io::Result<()> {
+    fs::open(rt, folder)?.sync_all()
+}
+
+fn sync_folder_of(rt: &(impl Files + Eprint), path: &str) {
+    let end = folder_end(path.as_bytes());
+    let folder = path.get(..end).unwrap_or("");
+    if folder.is_empty() {
+        return sync_folder(rt, ".");
     }
-    sync_folder(script::first(path, end))
+    sync_folder(rt, folder)
 }
 
 // The bytes to the file of that name, by way of a temporary file beside it that takes its name: whatever happens, all of the old file stands there or all of the new one.
-pub fn replace(path: &[u8], bytes: &[u8]) -> bool {
-    let mut name = [0u8; 4104];
-    let view: &mut [u8] = &mut name;
-    let at = script::put(view, 0, path);
-    let len = script::put(view, at, b".XXXXXX");
-    if view.len() < len {
+pub fn replace(rt: &(impl Files + RandomSource + Eprint), path: &str, bytes: &[u8]) -> bool {
+    let Some(any) = beside(path, "XXXXXX") else {
+        return false;
+    };
+    if !replace_by(rt, any.as_str(), path, bytes) {
         return false;
     }
-    if !replace_by(&mut view[..len], path, bytes) {
-        return false;
-    }
-    sync_folder_of(path);
+    sync_folder_of(rt, path);
     true
 }

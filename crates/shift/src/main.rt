@@ -1,79 +1,138 @@
 // shift FILE: replays the script of calls on standard input from the filter whose record FILE holds, and writes the record of the filter that is left back to FILE.
 // shift FILE first: the first shift, from the empty filter; FILE must not be there yet.
 // Answers go to standard output, as those of `replay`. What becomes of the record is told on standard error: where it can't be written FILE stays as it was, and where it can't be read no call is replayed.
+#![tactic(auto)]
+
+ghost use Rattle.std.specs.Prelude.{◌≤◌, length};
+
 use filter::{Answer, Filter};
 use lines::held;
+use std::env::{Env, FillError};
+use std::fs::Files;
+use std::random::RandomSource;
+use std::{io, str};
 
 mod files;
 mod told;
 
 // The filter that the script leaves of this one.
-fn replayed(from: Answer) -> Filter {
+fn replayed(rt: &(impl Input + Print), from: Answer) -> io::Result<Filter> {
     let start = held::alone(lines::start(), from);
     let held = start.held;
-    let left = runs::run(held);
-    left.filter
+    let left = runs::run(rt, held)?;
+    Ok(left.filter)
 }
 
 // The record of what the shift leaves.
-fn save(path: &[u8], filter: Filter) {
-    let mut record = io::buffer();
+fn save(rt: &(impl Files + RandomSource + Eprint), path: &str, filter: Filter) {
+    let mut record = [0u8; 4096];
     let refusal = records::save(filter, &mut record);
     if refusal.number != 0 {
-        told::not_saved(path, refusal);
+        told::not_saved(rt, path, refusal);
         return;
     }
     let len = records::record_length(filter.sheet.n);
-    if !files::replace(path, script::first(&record, len)) {
-        told::kept(path);
+    if !files::replace(rt, path, script::first(&record, len)) {
+        told::kept(rt, path);
         return;
     }
-    told::written(path);
+    told::written(rt, path);
+}
+
+// The script from this filter on, and then the record; none where the script can't be read or an answer can't be written.
+fn replay<R: Files + RandomSource + Input + Print + Eprint>(
+    rt: &R,
+    path: &str,
+    from: Answer,
+) -> io::Result<()> {
+    match replayed(rt, from) {
+        Ok(filter) => {
+            save(rt, path, filter);
+            Ok(())
+        }
+        Err(e) => {
+            told::kept(rt, path);
+            Err(e)
+        }
+    }
 }
 
 // A shift that goes on from a record.
-fn next(path: &[u8]) {
-    let mut record = io::buffer();
-    let got = files::read(path, &mut record);
+fn next<R: Files + RandomSource + Input + Print + Eprint>(rt: &R, path: &str) -> io::Result<()> {
+    let mut record = [0u8; 4096];
+    let got = files::read(rt, path, &mut record);
     if !got.is_read {
-        told::not_replayed();
-        return;
+        told::not_replayed(rt);
+        return Ok(());
     }
     let start = records::load(script::first(&record, got.len));
     let refusal = start.refusal;
     if refusal.number != 0 {
-        told::not_loaded(path, refusal);
-        told::not_replayed();
-        return;
+        told::not_loaded(rt, path, refusal);
+        told::not_replayed(rt);
+        return Ok(());
     }
-    save(path, replayed(start));
+    replay(rt, path, start)
 }
 
 // The first shift: a load of no bytes gives the empty filter.
-fn first(path: &[u8]) {
-    if !files::is_missing(path) {
-        told::not_replayed();
-        return;
+fn first<R: Files + RandomSource + Input + Print + Eprint>(rt: &R, path: &str) -> io::Result<()> {
+    if !files::is_missing(rt, path) {
+        told::not_replayed(rt);
+        return Ok(());
     }
-    save(path, replayed(records::load(b"")));
+    replay(rt, path, records::load(b""))
 }
 
-// One word after FILE at most, and that one is `first`.
-fn shift(path: &[u8], word: &[u8]) {
-    let count = os::arg_count();
-    if count == 2 {
-        return next(path);
-    }
-    if count == 3 && script::same_bytes(word, b"first") {
-        return first(path);
-    }
-    told::usage();
+// Whether there is an argument of that number.
+fn has_arg(rt: &impl Env, i: usize) -> bool {
+    !matches!(rt.arg(i, &mut []), Err(FillError::NotPresent))
 }
 
-fn main() {
-    let mut path = io::buffer();
-    let of_path = os::arg(1, &mut path);
-    let mut word = io::buffer();
-    let of_word = os::arg(2, &mut word);
-    shift(&path[..of_path], &word[..of_word]);
+// How many arguments there are, the program's own name among them; 4 where there are more.
+fn arg_count(rt: &impl Env) -> usize {
+    for i in 0..4 {
+        if !has_arg(rt, i) {
+            return i;
+        }
+    }
+    4
+}
+
+// The argument of that number at the front of bytes; how long it is, or 0 where it is missing or has no room.
+fn arg(rt: &impl Env, i: usize, bytes: &mut [u8]) -> usize
+    ensures { result ≤ length bytes.new }
+{
+    rt.arg(i, bytes).unwrap_or(0)
+}
+
+// One word after FILE at most, and that one is `first`. A name that is not UTF-8 names no file here.
+fn shift<R: Files + RandomSource + Env + Input + Print + Eprint>(
+    rt: &R,
+    path: &[u8],
+    word: &[u8],
+) -> io::Result<()> {
+    let count = arg_count(rt);
+    let is_first = count == 3 && script::same_bytes(word, b"first");
+    if count != 2 && !is_first {
+        told::usage(rt);
+        return Ok(());
+    }
+    let Ok(path) = str::from_utf8(path) else {
+        told::no_name(rt);
+        told::not_replayed(rt);
+        return Ok(());
+    };
+    if is_first {
+        return first(rt, path);
+    }
+    next(rt, path)
+}
+
+fn main(rt: HostRuntime) -> io::Result<()> {
+    let mut path = [0u8; 4096];
+    let of_path = arg(&rt, 1, &mut path);
+    let mut word = [0u8; 4096];
+    let of_word = arg(&rt, 2, &mut word);
+    shift(&rt, &path[..of_path], &word[..of_word])
 }

@@ -1,44 +1,57 @@
 // What is told on standard error, each a line: what failed, with its number, and what became of the record.
+// Where standard error can't be written to, nothing is told, and all else goes on.
+use arrayvec::ArrayString;
 use floats::Verdict;
-use libc::STDERR_FILENO;
+use std::fmt::Write;
+use std::io;
 
-fn tell(s: &[u8]) {
-    io::write_all(STDERR_FILENO, s);
+fn tell(rt: &impl Eprint, s: &str) {
+    let _ = rt.eprint(s);
 }
 
-pub fn usage() {
+pub fn usage(rt: &impl Eprint) {
     tell(
-        b"shift FILE [first] <SCRIPT: goes on from the filter whose record FILE holds, or starts the first record\n",
+        rt,
+        "shift FILE [first] <SCRIPT: goes on from the filter whose record FILE holds, or starts the first record\n",
     );
 }
 
-pub fn not_replayed() {
-    tell(b"no call was replayed\n");
+pub fn no_name(rt: &impl Eprint) {
+    tell(rt, "FILE is no name: it is not UTF-8\n");
+}
+
+pub fn not_replayed(rt: &impl Eprint) {
+    tell(rt, "no call was replayed\n");
 }
 
 // What a name comes to.
-fn of_file(path: &[u8], s: &[u8]) {
-    tell(path);
-    tell(s);
+fn of_file(rt: &impl Eprint, path: &str, s: &str) {
+    tell(rt, path);
+    tell(rt, s);
 }
 
-pub fn there_already(path: &[u8]) {
-    of_file(path, b": there already, so this is not the first shift\n");
-}
-
-pub fn kept(path: &[u8]) {
+pub fn there_already(rt: &impl Eprint, path: &str) {
     of_file(
+        rt,
         path,
-        b": the record is not written, what was there is as it was\n",
+        ": there already, so this is not the first shift\n",
     );
 }
 
-pub fn written(path: &[u8]) {
-    of_file(path, b": the record is written\n");
+pub fn kept(rt: &impl Eprint, path: &str) {
+    of_file(
+        rt,
+        path,
+        ": the record is not written, what was there is as it was\n",
+    );
 }
 
-fn tell_number(n: u64) {
-    io::print_decimal(STDERR_FILENO, n);
+pub fn written(rt: &impl Eprint, path: &str) {
+    of_file(rt, path, ": the record is written\n");
+}
+
+fn tell_number(rt: &impl Eprint, n: u64) {
+    let _ = rt.eprint(n);
 }
 
 fn above_zero(n: i32) -> u64 {
@@ -48,67 +61,81 @@ fn above_zero(n: i32) -> u64 {
     n as u64
 }
 
-// The number and the words of what has just failed on a file.
-pub fn failed(path: &[u8]) {
-    tell(b"error ");
-    tell_number(above_zero(os::errno()));
-    tell(b": ");
-    os::fail(path);
+// The words for an error, without its number.
+fn tell_words(rt: &impl Eprint, error: io::Error) {
+    let mut text = ArrayString::<256>::new();
+    let _ = write!(text, "{error}");
+    match text.as_str().split_once(" (os error ") {
+        Some((words, _)) => tell(rt, words),
+        None => tell(rt, text.as_str()),
+    }
+}
+
+// The number and the words of what has failed on a file; the number is 0 where it was not the system that failed.
+pub fn failed(rt: &impl Eprint, path: &str, error: io::Error) {
+    tell(rt, "error ");
+    tell_number(rt, above_zero(error.raw_os_error().unwrap_or(0)));
+    tell(rt, ": ");
+    of_file(rt, path, ": ");
+    tell_words(rt, error);
+    tell(rt, "\n");
 }
 
 // Which of a record's numbers isn't finite.
-fn tell_slice(number: u8) {
+fn tell_slice(rt: &impl Eprint, number: u8) {
     match number {
-        51 => tell(b" NUMBER: a state isn't finite"),
-        52 => tell(b" NUMBER: a covariance isn't finite"),
-        53 => tell(b" NUMBER: noise isn't finite"),
-        _ => tell(b" NUMBER: a parameter or half-turn isn't finite"),
+        51 => tell(rt, " NUMBER: a state isn't finite"),
+        52 => tell(rt, " NUMBER: a covariance isn't finite"),
+        53 => tell(rt, " NUMBER: noise isn't finite"),
+        _ => tell(rt, " NUMBER: a parameter or half-turn isn't finite"),
     }
 }
 
-fn tell_load(number: u8) {
+fn tell_load(rt: &impl Eprint, number: u8) {
     match number {
-        1 => tell(b" SIZE: not 1 to 8 states"),
-        2 => tell(b" SHORT: the record is cut"),
+        1 => tell(rt, " SIZE: not 1 to 8 states"),
+        2 => tell(rt, " SHORT: the record is cut"),
         6 => tell(
-            b" PARAM: weights can't be made of the parameters, or a half-turn isn't above 0 or is too large",
+            rt,
+            " PARAM: weights can't be made of the parameters, or a half-turn isn't above 0 or is too large",
         ),
-        12 => tell(b" RECORD: not a record"),
-        _ => tell_slice(number),
+        12 => tell(rt, " RECORD: not a record"),
+        _ => tell_slice(rt, number),
     }
 }
 
-fn tell_save(number: u8) {
+fn tell_save(rt: &impl Eprint, number: u8) {
     match number {
-        1 => tell(b" SIZE: the filter is empty"),
-        3 => tell(b" STAGE: a call is open"),
+        1 => tell(rt, " SIZE: the filter is empty"),
+        3 => tell(rt, " STAGE: a call is open"),
         _ => tell(
-            b" FRESH: not stale, since the last prediction no correction and nothing set but Q",
+            rt,
+            " FRESH: not stale, since the last prediction no correction and nothing set but Q",
         ),
     }
 }
 
-fn tell_place(place: usize) {
-    tell(b" (place ");
-    tell_number(place as u64);
-    tell(b")\n");
+fn tell_place(rt: &impl Eprint, place: usize) {
+    tell(rt, " (place ");
+    tell_number(rt, place as u64);
+    tell(rt, ")\n");
 }
 
 // The record can't be loaded.
-pub fn not_loaded(path: &[u8], refusal: Verdict) {
-    of_file(path, b": ");
+pub fn not_loaded(rt: &impl Eprint, path: &str, refusal: Verdict) {
+    of_file(rt, path, ": ");
     let number = refusal.number;
-    tell_number(number as u64);
-    tell_load(number);
-    tell_place(refusal.place);
+    tell_number(rt, number as u64);
+    tell_load(rt, number);
+    tell_place(rt, refusal.place);
 }
 
 // The filter can't be saved.
-pub fn not_saved(path: &[u8], refusal: Verdict) {
-    of_file(path, b": ");
+pub fn not_saved(rt: &impl Eprint, path: &str, refusal: Verdict) {
+    of_file(rt, path, ": ");
     let number = refusal.number;
-    tell_number(number as u64);
-    tell_save(number);
-    tell_place(refusal.place);
-    kept(path);
+    tell_number(rt, number as u64);
+    tell_save(rt, number);
+    tell_place(rt, refusal.place);
+    kept(rt, path);
 }

@@ -1,16 +1,19 @@
 // Reads records on standard input and writes a line of answer to each. A record is a word that says what to run, then the words that this takes;
 // a word is 16 hex digits and a newline. An unknown first word or a bad word is answered `bad` and ends the run, as the end of the input does.
 // An answer is a refusal, or 0, and its place, where what is run can be refused, then its numbers, each after a space. vectors/make.py writes what it reads here and what it must answer.
-ghost use Rattle.std.specs.Prelude.{◌≡◌, ◌≤◌};
+#![tactic(auto)]
+
+ghost use Rattle.std.specs.Prelude.{◌≡◌, ◌≤◌, length, IfOk};
 ghost use Rattle.vectors.specs.Lines.{line_of};
 
 use angles::{Kind, Residual};
 use floats::Verdict;
-use libc::{STDIN_FILENO, STDOUT_FILENO};
 use matrix::pivots::Pivots;
 use matrix::{factor, inverse, product, sums};
 use root::Root;
 use sigma::{Moments, Params, draw, predict, weights};
+use std::io;
+use std::io::Read;
 use words::Word;
 
 // The word on a line.
@@ -23,42 +26,57 @@ fn word_of(line: &[u8; 17]) -> Word
     words::word_at(line, 0)
 }
 
-// The word that the next 17 bytes of the input are.
-fn next_word() -> Word {
-    let mut line = [0u8; 17];
-    if io::read_full(STDIN_FILENO, &mut line) != 17 {
-        return Word::Bad;
+// Reads until bytes is full or the input ends; how many bytes were put at its front.
+fn read_full(input: &mut impl Read, bytes: &mut [u8]) -> io::Result<usize>
+    ensures { IfOk result (λ n. n ≤ length bytes.new) }
+{
+    let mut done = 0usize;
+    while done < bytes.len() {
+        let got = input.read(&mut bytes[done..])?;
+        if got == 0 {
+            return Ok(done);
+        }
+        done += got;
     }
-    word_of(&line)
+    Ok(done)
+}
+
+// The word that the next 17 bytes of the input are.
+fn next_word(input: &mut impl Read) -> io::Result<Word> {
+    let mut line = [0u8; 17];
+    if read_full(input, &mut line)? != 17 {
+        return Ok(Word::Bad);
+    }
+    Ok(word_of(&line))
 }
 
 // The next k words of the input, as floats at the front of out, which has room for them; whether they are all words.
-fn fill(out: &mut [f64], k: usize) -> bool {
+fn fill(input: &mut impl Read, out: &mut [f64], k: usize) -> io::Result<bool> {
     let mut i = 0usize;
     while i < k {
         if i >= out.len() {
-            return false;
+            return Ok(false);
         }
-        let Word::Bits(b) = next_word() else {
-            return false;
+        let Word::Bits(b) = next_word(input)? else {
+            return Ok(false);
         };
         out[i] = words::float_of(b);
         i += 1;
     }
-    true
+    Ok(true)
 }
 
 // The next word of the input, as a count of at most `most`; 0 where it is none.
-fn next_count(most: u64) -> u64
-    ensures { result ≤ most }
+fn next_count(input: &mut impl Read, most: u64) -> io::Result<u64>
+    ensures { IfOk result (λ n. n ≤ most) }
 {
-    let Word::Bits(b) = next_word() else {
-        return 0;
+    let Word::Bits(b) = next_word(input)? else {
+        return Ok(0);
     };
     if b > most {
-        return 0;
+        return Ok(0);
     }
-    b
+    Ok(b)
 }
 
 // How many cells so many rows of so many have.
@@ -78,148 +96,146 @@ fn points(n: usize, m: usize) -> usize
 }
 
 // One byte of an answer.
-fn put_byte(c: u8) {
+fn put_byte(rt: &impl Print, c: u8) -> io::Result<()> {
     let text = [c];
-    io::write_all(STDOUT_FILENO, &text);
+    rt.write_all(&text)
 }
 
 // A refusal, or 0, with its place.
-fn put_verdict(v: Verdict) {
-    io::print_decimal(STDOUT_FILENO, v.number as u64);
-    put_byte(32);
-    io::print_decimal(STDOUT_FILENO, v.place as u64);
+fn put_verdict(rt: &impl Print, v: Verdict) -> io::Result<()> {
+    print!(rt; "{} {}", v.number, v.place)
 }
 
 // A space and the word of x.
-fn put_number(x: f64) {
-    put_byte(32);
-    io::print_hex(STDOUT_FILENO, words::bits_of(x), 16);
+fn put_number(rt: &impl Print, x: f64) -> io::Result<()> {
+    print!(rt; " {:016x}", words::bits_of(x))
 }
 
 // The first k numbers of s, as far as it has them.
-fn put_numbers(s: &[f64], k: usize) {
+fn put_numbers(rt: &impl Print, s: &[f64], k: usize) -> io::Result<()> {
     let mut i = 0usize;
     while i < k {
         if i >= s.len() {
-            return;
+            return Ok(());
         }
-        put_number(s[i]);
+        put_number(rt, s[i])?;
         i += 1;
     }
+    Ok(())
 }
 
 // The end of a record's answer: the run goes on.
-fn end_line() -> bool {
-    put_byte(10);
-    true
+fn end_line(rt: &impl Print) -> io::Result<bool> {
+    put_byte(rt, 10)?;
+    Ok(true)
 }
 
 // The answer to what is no record: the run ends.
-fn say_bad() -> bool {
-    io::write_all(STDOUT_FILENO, b"bad\n");
-    false
+fn say_bad(rt: &impl Print) -> io::Result<bool> {
+    rt.write_all(b"bad\n")?;
+    Ok(false)
 }
 
 // 1: the root of a number.
-fn answer_root() -> bool {
+fn answer_root(rt: &impl Print, input: &mut impl Read) -> io::Result<bool> {
     let mut a = [0.0f64; 1];
-    if !fill(&mut a, 1) {
-        return say_bad();
+    if !fill(input, &mut a, 1)? {
+        return say_bad(rt);
     }
     let r = root::square_root(a[0]);
     match r {
         Root::Value(v) => {
-            put_verdict(floats::placeless(0));
-            put_number(v);
+            put_verdict(rt, floats::placeless(0))?;
+            put_number(rt, v)?;
         }
-        Root::Refused => put_verdict(floats::placeless(56)),
+        Root::Refused => put_verdict(rt, floats::placeless(56))?,
     }
-    end_line()
+    end_line(rt)
 }
 
 // 2: the wrap of d by h.
-fn answer_wrap() -> bool {
+fn answer_wrap(rt: &impl Print, input: &mut impl Read) -> io::Result<bool> {
     let mut a = [0.0f64; 2];
-    if !fill(&mut a, 2) {
-        return say_bad();
+    if !fill(input, &mut a, 2)? {
+        return say_bad(rt);
     }
     let w = angles::wrap(a[0], a[1]);
     let refusal = w.refusal;
-    put_verdict(refusal);
-    put_number(w.value);
-    end_line()
+    put_verdict(rt, refusal)?;
+    put_number(rt, w.value)?;
+    end_line(rt)
 }
 
 // 3: the factor of a matrix of P (7) or of S (8), of n rows.
-fn answer_factor() -> bool {
-    let of = if next_count(8) == 7 {
+fn answer_factor(rt: &impl Print, input: &mut impl Read) -> io::Result<bool> {
+    let of = if next_count(input, 8)? == 7 {
         Pivots::OfP
     } else {
         Pivots::OfS
     };
-    let n = next_count(8) as usize;
+    let n = next_count(input, 8)? as usize;
     let mut a = [0.0f64; 64];
-    if !fill(&mut a, cells(n, n)) {
-        return say_bad();
+    if !fill(input, &mut a, cells(n, n))? {
+        return say_bad(rt);
     }
     let f = factor::cholesky_decompose_lower(&a, n, of);
     let refusal = f.refusal;
-    put_verdict(refusal);
+    put_verdict(rt, refusal)?;
     if refusal.number == 0 {
-        put_numbers(&f.l, cells(n, n));
+        put_numbers(rt, &f.l, cells(n, n))?;
     }
-    end_line()
+    end_line(rt)
 }
 
 // 4: the inverse from a factor of m rows.
-fn answer_inverse() -> bool {
-    let m = next_count(8) as usize;
+fn answer_inverse(rt: &impl Print, input: &mut impl Read) -> io::Result<bool> {
+    let m = next_count(input, 8)? as usize;
     let mut l = [0.0f64; 64];
-    if !fill(&mut l, cells(m, m)) {
-        return say_bad();
+    if !fill(input, &mut l, cells(m, m))? {
+        return say_bad(rt);
     }
     let v = inverse::invert_l_cholesky(&l, m);
-    put_numbers(&v, cells(m, m));
-    end_line()
+    put_numbers(rt, &v, cells(m, m))?;
+    end_line(rt)
 }
 
 // 5: A times the transpose of B, for n rows of d numbers and m rows of d.
-fn answer_product() -> bool {
-    let n = next_count(8) as usize;
-    let m = next_count(8) as usize;
-    let d = next_count(8) as usize;
+fn answer_product(rt: &impl Print, input: &mut impl Read) -> io::Result<bool> {
+    let n = next_count(input, 8)? as usize;
+    let m = next_count(input, 8)? as usize;
+    let d = next_count(input, 8)? as usize;
     let mut a = [0.0f64; 64];
     let mut b = [0.0f64; 64];
-    if !fill(&mut a, cells(n, d)) {
-        return say_bad();
+    if !fill(input, &mut a, cells(n, d))? {
+        return say_bad(rt);
     }
-    if !fill(&mut b, cells(m, d)) {
-        return say_bad();
+    if !fill(input, &mut b, cells(m, d))? {
+        return say_bad(rt);
     }
     let c = product::mult_transb(&a, n, &b, m, d);
-    put_numbers(&c, cells(n, m));
-    end_line()
+    put_numbers(rt, &c, cells(n, m))?;
+    end_line(rt)
 }
 
 // 6 and 7: a + b and a - b, of k numbers each.
-fn answer_sum(minus: bool) -> bool {
-    let k = next_count(64) as usize;
+fn answer_sum(rt: &impl Print, input: &mut impl Read, minus: bool) -> io::Result<bool> {
+    let k = next_count(input, 64)? as usize;
     let mut a = [0.0f64; 64];
     let mut b = [0.0f64; 64];
-    if !fill(&mut a, k) {
-        return say_bad();
+    if !fill(input, &mut a, k)? {
+        return say_bad(rt);
     }
-    if !fill(&mut b, k) {
-        return say_bad();
+    if !fill(input, &mut b, k)? {
+        return say_bad(rt);
     }
     if minus {
         let c = sums::minus(k, &a, &b);
-        put_numbers(&c, k);
+        put_numbers(rt, &c, k)?;
     } else {
         let c = sums::plus(k, &a, &b);
-        put_numbers(&c, k);
+        put_numbers(rt, &c, k)?;
     }
-    end_line()
+    end_line(rt)
 }
 
 // Three parameters, and whether there were three numbers.
@@ -229,17 +245,17 @@ struct ParamsGiven {
     params: Params,
 }
 
-fn next_params() -> ParamsGiven {
+fn next_params(input: &mut impl Read) -> io::Result<ParamsGiven> {
     let mut a = [0.0f64; 3];
-    let ok = fill(&mut a, 3);
-    ParamsGiven {
+    let ok = fill(input, &mut a, 3)?;
+    Ok(ParamsGiven {
         ok,
         params: Params {
             alpha: a[0],
             beta: a[1],
             kappa: a[2],
         },
-    }
+    })
 }
 
 // Kinds, and whether they were all there: for each a count, 0 plain or 1 a turn, and a half-turn.
@@ -249,7 +265,7 @@ struct KindsGiven {
     kinds: [Kind; 8],
 }
 
-fn next_kinds(k: usize) -> KindsGiven {
+fn next_kinds(input: &mut impl Read, k: usize) -> io::Result<KindsGiven> {
     let plain = Kind {
         residual: Residual::Plain,
     };
@@ -258,11 +274,11 @@ fn next_kinds(k: usize) -> KindsGiven {
     let mut i = 0usize;
     while i < k {
         if i >= 8 {
-            return KindsGiven { ok: false, kinds };
+            return Ok(KindsGiven { ok: false, kinds });
         }
-        let turn = next_count(1);
+        let turn = next_count(input, 1)?;
         let mut h = [0.0f64; 1];
-        if !fill(&mut h, 1) {
+        if !fill(input, &mut h, 1)? {
             ok = false;
         }
         if turn == 1 {
@@ -272,85 +288,86 @@ fn next_kinds(k: usize) -> KindsGiven {
         }
         i += 1;
     }
-    KindsGiven { ok, kinds }
+    Ok(KindsGiven { ok, kinds })
 }
 
 // 8: whether the weights of n states pass 6, then N, w0m, w0c and wi.
-fn answer_weights() -> bool {
-    let n = next_count(8) as usize;
-    let g = next_params();
+fn answer_weights(rt: &impl Print, input: &mut impl Read) -> io::Result<bool> {
+    let n = next_count(input, 8)? as usize;
+    let g = next_params(input)?;
     if !g.ok {
-        return say_bad();
+        return say_bad(rt);
     }
     let params = g.params;
     if weights::weights_pass(n, params) {
-        put_byte(49);
+        put_byte(rt, 49)?;
     } else {
-        put_byte(48);
+        put_byte(rt, 48)?;
     }
     let w = weights::compute_weights(n, params);
-    put_number(w.scale);
-    put_number(w.w0m);
-    put_number(w.w0c);
-    put_number(w.wi);
-    end_line()
+    put_number(rt, w.scale)?;
+    put_number(rt, w.w0m)?;
+    put_number(rt, w.w0c)?;
+    put_number(rt, w.wi)?;
+    end_line(rt)
 }
 
 // 9: the points drawn from x and P.
-fn answer_draw() -> bool {
-    let n = next_count(8) as usize;
-    let g = next_params();
+fn answer_draw(rt: &impl Print, input: &mut impl Read) -> io::Result<bool> {
+    let n = next_count(input, 8)? as usize;
+    let g = next_params(input)?;
     let mut x = [0.0f64; 8];
     let mut p = [0.0f64; 64];
     if !g.ok {
-        return say_bad();
+        return say_bad(rt);
     }
-    if !fill(&mut x, n) {
-        return say_bad();
+    if !fill(input, &mut x, n)? {
+        return say_bad(rt);
     }
-    if !fill(&mut p, cells(n, n)) {
-        return say_bad();
+    if !fill(input, &mut p, cells(n, n))? {
+        return say_bad(rt);
     }
     let d = draw::generate_sigma_points(n, &x, &p, weights::scale(n, g.params));
     let refusal = d.refusal;
-    put_verdict(refusal);
+    put_verdict(rt, refusal)?;
     if refusal.number == 0 {
-        put_numbers(&d.points, points(n, n));
+        put_numbers(rt, &d.points, points(n, n))?;
     }
-    end_line()
+    end_line(rt)
 }
 
 // What a close gives.
-fn put_moments(n: usize, q: Moments) {
+fn put_moments(rt: &impl Print, n: usize, q: Moments) -> io::Result<()> {
     let refusal = q.refusal;
-    put_verdict(refusal);
+    put_verdict(rt, refusal)?;
     if refusal.number != 0 {
-        return;
+        return Ok(());
     }
-    put_numbers(&q.x, n);
+    put_numbers(rt, &q.x, n)?;
     if n <= 8 {
-        put_numbers(&q.p, cells(n, n));
+        put_numbers(rt, &q.p, cells(n, n))?;
     }
+    Ok(())
 }
 
 // 10: x and P from propagated points, the weights those of the parameters.
-fn answer_prediction() -> bool {
-    let n = next_count(8) as usize;
-    let g = next_params();
-    let k = next_kinds(n);
+fn answer_prediction(rt: &impl Print, input: &mut impl Read) -> io::Result<bool> {
+    let n = next_count(input, 8)? as usize;
+    let g = next_params(input)?;
+    let k = next_kinds(input, n)?;
     let mut q = [0.0f64; 64];
     let mut s = [0.0f64; 136];
     if !g.ok {
-        return say_bad();
+        return say_bad(rt);
     }
     if !k.ok {
-        return say_bad();
+        return say_bad(rt);
     }
-    if !fill(&mut q, cells(n, n)) {
-        return say_bad();
+    if !fill(input, &mut q, cells(n, n))? {
+        return say_bad(rt);
     }
-    if !fill(&mut s, points(n, n)) {
-        return say_bad();
+    if !fill(input, &mut s, points(n, n))? {
+        return say_bad(rt);
     }
     let params = g.params;
     let kinds = k.kinds;
@@ -363,17 +380,17 @@ fn answer_prediction() -> bool {
         kinds,
         &q,
     );
-    put_moments(n, r);
-    end_line()
+    put_moments(rt, n, r)?;
+    end_line(rt)
 }
 
 // 11: x and P from observed points and a measurement, the weights those of the parameters.
-fn answer_correction() -> bool {
-    let n = next_count(8) as usize;
-    let m = next_count(4) as usize;
-    let g = next_params();
-    let k = next_kinds(n);
-    let l = next_kinds(m);
+fn answer_correction(rt: &impl Print, input: &mut impl Read) -> io::Result<bool> {
+    let n = next_count(input, 8)? as usize;
+    let m = next_count(input, 4)? as usize;
+    let g = next_params(input)?;
+    let k = next_kinds(input, n)?;
+    let l = next_kinds(input, m)?;
     let mut x = [0.0f64; 8];
     let mut p = [0.0f64; 64];
     let mut z = [0.0f64; 8];
@@ -381,31 +398,31 @@ fn answer_correction() -> bool {
     let mut s = [0.0f64; 136];
     let mut o = [0.0f64; 136];
     if !g.ok {
-        return say_bad();
+        return say_bad(rt);
     }
     if !k.ok {
-        return say_bad();
+        return say_bad(rt);
     }
     if !l.ok {
-        return say_bad();
+        return say_bad(rt);
     }
-    if !fill(&mut x, n) {
-        return say_bad();
+    if !fill(input, &mut x, n)? {
+        return say_bad(rt);
     }
-    if !fill(&mut p, cells(n, n)) {
-        return say_bad();
+    if !fill(input, &mut p, cells(n, n))? {
+        return say_bad(rt);
     }
-    if !fill(&mut z, m) {
-        return say_bad();
+    if !fill(input, &mut z, m)? {
+        return say_bad(rt);
     }
-    if !fill(&mut r, cells(m, m)) {
-        return say_bad();
+    if !fill(input, &mut r, cells(m, m))? {
+        return say_bad(rt);
     }
-    if !fill(&mut s, points(n, n)) {
-        return say_bad();
+    if !fill(input, &mut s, points(n, n))? {
+        return say_bad(rt);
     }
-    if !fill(&mut o, points(n, m)) {
-        return say_bad();
+    if !fill(input, &mut o, points(n, m))? {
+        return say_bad(rt);
     }
     let params = g.params;
     let w = weights::weights(n, params);
@@ -416,48 +433,51 @@ fn answer_correction() -> bool {
     let q = correction::correct_with_weights_residuals(
         n, m, &x, &p, &s, &o, w0m, &w, &z, &r, kinds, four,
     );
-    put_moments(n, q);
-    end_line()
+    put_moments(rt, n, q)?;
+    end_line(rt)
 }
 
 // The record that a first word starts; whether the run goes on.
-fn answer(tag: u64) -> bool {
+fn answer(rt: &impl Print, input: &mut impl Read, tag: u64) -> io::Result<bool> {
     match tag {
-        1 => answer_root(),
-        2 => answer_wrap(),
-        3 => answer_factor(),
-        4 => answer_inverse(),
-        5 => answer_product(),
-        6 => answer_sum(false),
-        7 => answer_sum(true),
-        8 => answer_weights(),
-        9 => answer_draw(),
-        10 => answer_prediction(),
-        11 => answer_correction(),
-        _ => say_bad(),
+        1 => answer_root(rt, input),
+        2 => answer_wrap(rt, input),
+        3 => answer_factor(rt, input),
+        4 => answer_inverse(rt, input),
+        5 => answer_product(rt, input),
+        6 => answer_sum(rt, input, false),
+        7 => answer_sum(rt, input, true),
+        8 => answer_weights(rt, input),
+        9 => answer_draw(rt, input),
+        10 => answer_prediction(rt, input),
+        11 => answer_correction(rt, input),
+        _ => say_bad(rt),
     }
 }
 
 // One record; whether the run goes on.
-fn answer_next() -> bool {
+fn answer_next(rt: &impl Print, input: &mut impl Read) -> io::Result<bool> {
     let mut line = [0u8; 17];
-    let got = io::read_full(STDIN_FILENO, &mut line);
+    let got = read_full(input, &mut line)?;
     if got == 0 {
-        return false;
+        return Ok(false);
     }
     if got != 17 {
-        return say_bad();
+        return say_bad(rt);
     }
     let Word::Bits(tag) = word_of(&line) else {
-        return say_bad();
+        return say_bad(rt);
     };
-    answer(tag)
+    answer(rt, input, tag)
 }
 
-// A proved loop has to end, and nothing says that the input does: the turns are counted down from a number that no run uses up.
-fn main() {
-    let mut turns = u64::MAX;
-    while turns > 0 && answer_next() {
-        turns -= 1;
+// A proved loop has to end, and nothing says that the input does: the turns are counted up to a number that no run reaches.
+fn main(rt: HostRuntime) -> io::Result<()> {
+    let mut input = rt.reader();
+    for _ in 0..u64::MAX {
+        if !answer_next(&rt, &mut input)? {
+            break;
+        }
     }
+    Ok(())
 }
