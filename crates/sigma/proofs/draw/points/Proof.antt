@@ -8,48 +8,48 @@ use native.Mathlib.Omega.{arith}
 use Rattle.sigma.proofs.draw.points.Statement.{statement}
 use Rattle.sigma.proofs.draw.points.Tie as tie
 
-abbrev invariant-loop2 : tie.invariant-loop2
-invariant-loop2 n x l s out₀ k i₀ out i = (i ≤ n) × Row (point_at binary64 n x l s) n (zeros 136) k i out
+abbrev invariant-loop-i : tie.invariant-loop-i
+invariant-loop-i n x l s out₀ k i₀ out i = (i ≤ n) × Row (point_at binary64 n x l s) n (zeros 136) k i out
 
-abbrev decreases-loop2 : tie.decreases-loop2
-decreases-loop2 n x l s out₀ k i₀ out i = n - i
+abbrev decreases-loop-i : tie.decreases-loop-i
+decreases-loop-i n x l s out₀ k i₀ out i = n - i
 
-abbrev invariant-loop : tie.invariant-loop
-invariant-loop n x l s out₀ k₀ out k = (k ≤ n + n + 1) × Rows (point_at binary64 n x l s) n (zeros 136) k out
+abbrev invariant-loop-k : tie.invariant-loop-k
+invariant-loop-k n x l s out₀ k₀ out k = (k ≤ n + n + 1) × Rows (point_at binary64 n x l s) n (zeros 136) k out
 
-abbrev decreases-loop : tie.decreases-loop
-decreases-loop n x l s out₀ k₀ out k = n + n + 1 - k
+abbrev decreases-loop-k : tie.decreases-loop-k
+decreases-loop-k n x l s out₀ k₀ out k = n + n + 1 - k
 
-loop-holds : tie.Need-loop-init invariant-loop2 decreases-loop2 invariant-loop decreases-loop
+loop-holds : tie.Need-loop-k-init invariant-loop-i decreases-loop-i invariant-loop-k decreases-loop-k
 unfolding of_bits zeros
 loop-holds c = (omega arith, rows_none)
 
-loop2-holds : tie.Need-loop2-init invariant-loop2 decreases-loop2 invariant-loop decreases-loop
-loop2-holds c = (omega arith, row_none c.before.loop.invariant.1)
+loop2-holds : tie.Need-loop-i-init invariant-loop-i decreases-loop-i invariant-loop-k decreases-loop-k
+loop2-holds c = (omega arith, row_none c.loop-k.invariant.1)
 
-place-requires : tie.Need-place-requires invariant-loop2 decreases-loop2 invariant-loop decreases-loop
+place-requires : tie.Need-place-at-requires invariant-loop-i decreases-loop-i invariant-loop-k decreases-loop-k
 place-requires c κs = (omega arith, omega arith, omega arith)
 
-point-at-requires : tie.Need-point-at-requires invariant-loop2 decreases-loop2 invariant-loop decreases-loop
+point-at-requires : tie.Need-point_at-requires invariant-loop-i decreases-loop-i invariant-loop-k decreases-loop-k
 point-at-requires c κs = (omega arith, omega arith, omega arith)
 
-loop2-again : tie.Need-loop2-preserved invariant-loop2 decreases-loop2 invariant-loop decreases-loop
-loop2-again c = (omega arith, row_more c.before.before.before.loop2.invariant.1 c.before.place.ensures.0 c.point_at.ensures)
+loop2-again : tie.Need-loop-i-preserved invariant-loop-i decreases-loop-i invariant-loop-k decreases-loop-k
+loop2-again c = (omega arith, row_more c.loop-i.invariant.1 c.place-at.ensures.0 c.point_at.ensures)
 
-loop-again : tie.Need-loop-preserved invariant-loop2 decreases-loop2 invariant-loop decreases-loop
-loop-again c = (omega arith, row_end c.before.loop2.invariant.1 (omega arith))
+loop-again : tie.Need-loop-k-preserved invariant-loop-i decreases-loop-i invariant-loop-k decreases-loop-k
+loop-again c = (omega arith, row_end c.loop-i.invariant.1 (omega arith))
 
-returns : tie.Need-returns invariant-loop2 decreases-loop2 invariant-loop decreases-loop
-returns c = rows_end c.before.loop.invariant.1 (omega arith)
+returns : tie.Need-returns invariant-loop-i decreases-loop-i invariant-loop-k decreases-loop-k
+returns c = rows_end c.loop-k.invariant.1 (omega arith)
 
-pub points-spec : {M : Type 1} → statement M
-points-spec =
+pub points_spec : {M : Type 1} → statement M
+points_spec =
     tie.close
     (tie.spec
-    invariant-loop2
-    decreases-loop2
-    invariant-loop
-    decreases-loop
+    invariant-loop-i
+    decreases-loop-i
+    invariant-loop-k
+    decreases-loop-k
     loop-holds
     (λ c. omega arith)
     loop2-holds

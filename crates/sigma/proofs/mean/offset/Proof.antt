@@ -9,31 +9,31 @@ use native.Mathlib.Omega.{arith}
 use Rattle.sigma.proofs.mean.offset.Statement.{statement}
 use Rattle.sigma.proofs.mean.offset.Tie as tie
 
-abbrev invariant-loop : tie.invariant-loop
-invariant-loop p d t w i kinds s₀ k₀ s k = (k ≤ t) × Total (add binary64) plus_zero (offset_at binary64 p d t w kinds i) k s
+abbrev invariant-loop-k : tie.invariant-loop-k
+invariant-loop-k p d t w i kinds s₀ k₀ s k = (k ≤ t) × Total (add binary64) plus_zero (offset_at binary64 p d t w kinds i) k s
 
-abbrev decreases-loop : tie.decreases-loop
-decreases-loop p d t w i kinds s₀ k₀ s k = t - k
+abbrev decreases-loop-k : tie.decreases-loop-k
+decreases-loop-k p d t w i kinds s₀ k₀ s k = t - k
 
-loop-holds : tie.Need-loop-init invariant-loop decreases-loop
+loop-holds : tie.Need-loop-k-init invariant-loop-k decreases-loop-k
 unfolding of_bits
 loop-holds c = (omega arith, total_none)
 
-place-requires : tie.Need-place-requires invariant-loop decreases-loop
+place-requires : tie.Need-place-at-requires invariant-loop-k decreases-loop-k
 place-requires c κs = (omega arith, omega arith, omega arith)
 
-loop-again : tie.Need-loop-preserved invariant-loop decreases-loop
-loop-again c = (omega arith, total_more c.before.before.before.before.before.before.before.loop.invariant.1 (rw (← c.before.before.before.before.before.place.ensures.0) (ap (mul binary64 _) c.through-kind.ensures)))
+loop-again : tie.Need-loop-k-preserved invariant-loop-k decreases-loop-k
+loop-again c = (omega arith, total_more c.loop-k.invariant.1 (rw (← c.place-at.ensures.0) (ap (mul binary64 _) c.through_kind.ensures)))
 
-returns : tie.Need-returns invariant-loop decreases-loop
-returns c = total_end c.before.loop.invariant.1 (omega arith)
+returns : tie.Need-returns invariant-loop-k decreases-loop-k
+returns c = total_end c.loop-k.invariant.1 (omega arith)
 
-pub offset-spec : {M : Type 1} → statement M
-offset-spec =
+pub offset_spec : {M : Type 1} → statement M
+offset_spec =
     tie.close
     (tie.spec
-    invariant-loop
-    decreases-loop
+    invariant-loop-k
+    decreases-loop-k
     loop-holds
     (λ c. omega arith)
     place-requires

@@ -8,36 +8,36 @@ use native.Mathlib.Omega.{arith}
 use Rattle.sigma.proofs.spread.sum_at.Statement.{statement}
 use Rattle.sigma.proofs.spread.sum_at.Tie as tie
 
-abbrev invariant-loop : tie.invariant-loop
-invariant-loop a da i b db j w t s₀ k₀ s k = (k ≤ t + 1) × Total (add binary64) plus_zero (weighed_at binary64 a da b db w t i j) k s
+abbrev invariant-loop-k : tie.invariant-loop-k
+invariant-loop-k a da i b db j w t s₀ k₀ s k = (k ≤ t + 1) × Total (add binary64) plus_zero (weighed_at binary64 a da b db w t i j) k s
 
-abbrev decreases-loop : tie.decreases-loop
-decreases-loop a da i b db j w t s₀ k₀ s k = t + 1 - k
+abbrev decreases-loop-k : tie.decreases-loop-k
+decreases-loop-k a da i b db j w t s₀ k₀ s k = t + 1 - k
 
-loop-holds : tie.Need-loop-init invariant-loop decreases-loop
+loop-holds : tie.Need-loop-k-init invariant-loop-k decreases-loop-k
 unfolding of_bits
 loop-holds c = (omega arith, total_none)
 
-place-requires : tie.Need-place-requires invariant-loop decreases-loop
+place-requires : tie.Need-place-x-requires invariant-loop-k decreases-loop-k
 place-requires c κs = (omega arith, omega arith, omega arith)
 
-place-requires-2 : tie.Need-place-requires-2 invariant-loop decreases-loop
+place-requires-2 : tie.Need-place-y-requires invariant-loop-k decreases-loop-k
 place-requires-2 c κs = (omega arith, omega arith, omega arith)
 
-loop-again : tie.Need-loop-preserved invariant-loop decreases-loop
+loop-again : tie.Need-loop-k-preserved invariant-loop-k decreases-loop-k
 loop-again c =
     let at = c.before.before.before in
-    (omega arith, total_more at.before.before.before.loop.invariant.1 (rw (← at.before.place.ensures.0, ← at.place2.ensures.0)))
+    (omega arith, total_more at.loop-k.invariant.1 (rw (← at.place-x.ensures.0, ← at.place-y.ensures.0)))
 
-returns : tie.Need-returns invariant-loop decreases-loop
-returns c = total_end c.before.loop.invariant.1 (omega arith)
+returns : tie.Need-returns invariant-loop-k decreases-loop-k
+returns c = total_end c.loop-k.invariant.1 (omega arith)
 
-pub sum-at-spec : {M : Type 1} → statement M
-sum-at-spec =
+pub sum_at_spec : {M : Type 1} → statement M
+sum_at_spec =
     tie.close
     (tie.spec
-    invariant-loop
-    decreases-loop
+    invariant-loop-k
+    decreases-loop-k
     loop-holds
     place-requires
     place-requires-2

@@ -6,7 +6,7 @@ use Rattle.sigma.proofs.weights.center_weight.Statement.{statement}
 use Rattle.sigma.proofs.weights.center_weight.Tie as tie
 
 returns : tie.Need-returns
-returns c = ap (λ (w : Weighting). w.w0m) c.compute-weights.ensures
+returns c = ap (λ (w : Weighting). w.w0m) c.compute_weights-c.ensures
 
-pub center-weight-spec : {M : Type 1} → statement M
-center-weight-spec = tie.close (tie.spec (λ c κs. search rules) returns)
+pub center_weight_spec : {M : Type 1} → statement M
+center_weight_spec = tie.close (tie.spec (λ c κs. search rules) returns)

@@ -11,5 +11,5 @@ returns : tie.Need-returns
 unfolding lambda_of scale_of w0m_of w0c_of wi_of of_bits of_int
 returns c = refl
 
-pub compute-weights-spec : {M : Type 1} → statement M
-compute-weights-spec = tie.close (tie.spec (λ c. states_exact binary64 c.before.args.n (omega arith)) returns)
+pub compute_weights_spec : {M : Type 1} → statement M
+compute_weights_spec = tie.close (tie.spec (λ c. states_exact binary64 c.args.n (omega arith)) returns)

@@ -6,7 +6,7 @@ use Rattle.sigma.proofs.weights.scale.Statement.{statement}
 use Rattle.sigma.proofs.weights.scale.Tie as tie
 
 returns : tie.Need-returns
-returns c = ap (λ (w : Weighting). w.scale) c.compute-weights.ensures
+returns c = ap (λ (w : Weighting). w.scale) c.compute_weights-c.ensures
 
-pub scale-spec : {M : Type 1} → statement M
-scale-spec = tie.close (tie.spec (λ c κs. search rules) returns)
+pub scale_spec : {M : Type 1} → statement M
+scale_spec = tie.close (tie.spec (λ c κs. search rules) returns)

@@ -17,31 +17,31 @@ use Rattle.sigma.proofs.weights.weights.Tie as tie
 abbrev at : Float → Float → ℕ → Float
 at w0c wi k = cond (eqb k 0) w0c wi
 
-abbrev invariant-loop : tie.invariant-loop
-invariant-loop n c w₀ k₀ w k = (1 ≤ k) × (k ≤ n + n + 1) × Places (at c.w0c c.wi) (zeros 17) k w
+abbrev invariant-loop-k : tie.invariant-loop-k
+invariant-loop-k n c w₀ k₀ w k = (1 ≤ k) × (k ≤ n + n + 1) × Places (at c.w0c c.wi) (zeros 17) k w
 
-abbrev decreases-loop : tie.decreases-loop
-decreases-loop n c w₀ k₀ w k = n + n + 1 - k
+abbrev decreases-loop-k : tie.decreases-loop-k
+decreases-loop-k n c w₀ k₀ w k = n + n + 1 - k
 
-loop-holds : tie.Need-loop-init invariant-loop decreases-loop
+loop-holds : tie.Need-loop-k-init invariant-loop-k decreases-loop-k
 unfolding of_bits zeros
 loop-holds c = (omega arith, omega arith, places_more places_none refl)
 
-loop-again : tie.Need-loop-preserved invariant-loop decreases-loop
-loop-again c = (omega arith, omega arith, places_more c.before.loop.invariant.2 (other _ _ c.before.loop.k (omega arith)))
+loop-again : tie.Need-loop-k-preserved invariant-loop-k decreases-loop-k
+loop-again c = (omega arith, omega arith, places_more c.loop-k.invariant.2 (other _ _ c.loop-k.k (omega arith)))
 
-returns : tie.Need-returns invariant-loop decreases-loop
+returns : tie.Need-returns invariant-loop-k decreases-loop-k
 returns c =
-    let n = c.before.before.before.args.n in
-    let e : c.before.loop.k ≡ n + n + 1 = omega arith in
-    places_end c.before.loop.invariant.2 e ∙ ap (λ (v : Weighting). places_of (at v.w0c v.wi) (n + n + 1) (zeros 17)) c.before.before.compute-weights.ensures
+    let n = c.args.n in
+    let e : c.loop-k.k ≡ n + n + 1 = omega arith in
+    places_end c.loop-k.invariant.2 e ∙ ap (λ (v : Weighting). places_of (at v.w0c v.wi) (n + n + 1) (zeros 17)) c.compute_weights-c.ensures
 
-pub weights-spec : {M : Type 1} → statement M
-weights-spec =
+pub weights_spec : {M : Type 1} → statement M
+weights_spec =
     tie.close
     (tie.spec
-    invariant-loop
-    decreases-loop
+    invariant-loop-k
+    decreases-loop-k
     (λ c κs. omega arith)
     (λ c. omega arith)
     loop-holds

@@ -6,18 +6,18 @@ use Rattle.sigma.proofs.Entries.{passes, others_decide, n_decides}
 use Rattle.sigma.proofs.weights.weights_pass.Statement.{statement}
 use Rattle.sigma.proofs.weights.weights_pass.Tie as tie
 
-returns : tie.Need-returns
+returns : tie.Need-returns-then-is_above_zero
 unfolding weights_pass
 returns c =
     let at = c.before.before.before in
-    c.all-finite.ensures ∙ others_decide at.before.compute-weights.result at.is-above-zero.ensures c.before.before.if1.true ∙ ap passes at.before.compute-weights.ensures
+    c.all_finite.ensures ∙ others_decide at.compute_weights-c.result at.is_above_zero.ensures c.if-is_above_zero.true ∙ ap passes at.compute_weights-c.ensures
 
-returns-2 : tie.Need-returns-2
+returns-2 : tie.Need-returns
 unfolding weights_pass
 returns-2 c =
     let at = c.before in
-    n_decides at.before.compute-weights.result at.is-above-zero.ensures c.if1.false ∙ ap passes at.before.compute-weights.ensures
+    n_decides at.compute_weights-c.result at.is_above_zero.ensures c.if-is_above_zero.false ∙ ap passes at.compute_weights-c.ensures
 
-pub weights-pass-spec : {M : Type 1} → statement M
-weights-pass-spec =
+pub weights_pass_spec : {M : Type 1} → statement M
+weights_pass_spec =
     tie.close (tie.spec (λ c κs. search rules) (λ c κs. search rules) (λ c. search rules) (λ c κs. search rules) returns returns-2)
