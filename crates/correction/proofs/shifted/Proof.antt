@@ -10,52 +10,52 @@ use Rattle.correction.specs.Leaves.{shifted_at}
 use Rattle.correction.proofs.shifted.Statement.{statement}
 use Rattle.correction.proofs.shifted.Tie as tie
 
-abbrev invariant-loop2 : tie.invariant-loop2
-invariant-loop2 n m x k y out i r s₀ j₀ s j = (j ≤ m) × Total (add binary64) plus_zero (product_at binary64 k r y 0) j s
+abbrev invariant-loop-j : tie.invariant-loop-j
+invariant-loop-j n m x k y out i r s₀ j₀ s j = (j ≤ m) × Total (add binary64) plus_zero (product_at binary64 k r y 0) j s
 
-abbrev decreases-loop2 : tie.decreases-loop2
-decreases-loop2 n m x k y out i r s₀ j₀ s j = m - j
+abbrev decreases-loop-j : tie.decreases-loop-j
+decreases-loop-j n m x k y out i r s₀ j₀ s j = m - j
 
-abbrev invariant-loop : tie.invariant-loop
-invariant-loop n m x k y out₀ i₀ out i = (i ≤ n) × Places (shifted_at binary64 m x k y) (zeros 8) i out
+abbrev invariant-loop-i : tie.invariant-loop-i
+invariant-loop-i n m x k y out₀ i₀ out i = (i ≤ n) × Places (shifted_at binary64 m x k y) (zeros 8) i out
 
-abbrev decreases-loop : tie.decreases-loop
-decreases-loop n m x k y out₀ i₀ out i = n - i
+abbrev decreases-loop-i : tie.decreases-loop-i
+decreases-loop-i n m x k y out₀ i₀ out i = n - i
 
-loop-holds : tie.Need-loop-init invariant-loop2 decreases-loop2 invariant-loop decreases-loop
+loop-holds : tie.Need-loop-i-init invariant-loop-j decreases-loop-j invariant-loop-i decreases-loop-i
 unfolding of_bits zeros
 loop-holds c = (omega arith, places_none)
 
-row-requires : tie.Need-row-requires invariant-loop2 decreases-loop2 invariant-loop decreases-loop
+row-requires : tie.Need-row-r-requires invariant-loop-j decreases-loop-j invariant-loop-i decreases-loop-i
 row-requires c κs = (omega arith, omega arith)
 
-loop2-holds : tie.Need-loop2-init invariant-loop2 decreases-loop2 invariant-loop decreases-loop
+loop2-holds : tie.Need-loop-j-init invariant-loop-j decreases-loop-j invariant-loop-i decreases-loop-i
 unfolding of_bits
 loop2-holds c = (omega arith, total_none)
 
-loop2-again : tie.Need-loop2-preserved invariant-loop2 decreases-loop2 invariant-loop decreases-loop
+loop2-again : tie.Need-loop-j-preserved invariant-loop-j decreases-loop-j invariant-loop-i decreases-loop-i
 loop2-again c =
-    let at = c.before.before.before.loop2 in
+    let at = c.loop-j in
     let e : 0 + at.j ≡ at.j = omega arith in
     (omega arith, total_more at.invariant.1 (rw e))
 
-loop-again : tie.Need-loop-preserved invariant-loop2 decreases-loop2 invariant-loop decreases-loop
+loop-again : tie.Need-loop-i-preserved invariant-loop-j decreases-loop-j invariant-loop-i decreases-loop-i
 loop-again c =
     let at = c.before.before in
-    let e : at.loop2.j ≡ at.before.before.before.before.args.m = omega arith in
-    (omega arith, places_more at.before.before.before.loop.invariant.1 (rw (← at.before.row.ensures.0) (ap (add binary64 _) (total_end at.loop2.invariant.1 e))))
+    let e : at.loop-j.j ≡ at.args.m = omega arith in
+    (omega arith, places_more at.loop-i.invariant.1 (rw (← at.row-r.ensures.0) (ap (add binary64 _) (total_end at.loop-j.invariant.1 e))))
 
-returns : tie.Need-returns invariant-loop2 decreases-loop2 invariant-loop decreases-loop
-returns c = places_end c.before.loop.invariant.1 (omega arith)
+returns : tie.Need-returns invariant-loop-j decreases-loop-j invariant-loop-i decreases-loop-i
+returns c = places_end c.loop-i.invariant.1 (omega arith)
 
-pub shifted-spec : {M : Type 1} → statement M
-shifted-spec =
+pub shifted_spec : {M : Type 1} → statement M
+shifted_spec =
     tie.close
     (tie.spec
-    invariant-loop2
-    decreases-loop2
-    invariant-loop
-    decreases-loop
+    invariant-loop-j
+    decreases-loop-j
+    invariant-loop-i
+    decreases-loop-i
     loop-holds
     row-requires
     loop2-holds

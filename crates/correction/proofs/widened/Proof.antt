@@ -9,7 +9,7 @@ use Rattle.correction.proofs.widened.Statement.{statement}
 use Rattle.correction.proofs.widened.Tie as tie
 
 returns : tie.Need-returns
-returns c = ap widened (four c.before.before.before.before.args.t1 plain (omega arith))
+returns c = ap widened (four c.args.kinds plain (omega arith))
 
-pub widened-spec : {M : Type 1} → statement M
-widened-spec = tie.close (tie.spec (λ c. search rules) (λ c. search rules) (λ c. search rules) (λ c. search rules) returns)
+pub widened_spec : {M : Type 1} → statement M
+widened_spec = tie.close (tie.spec (λ c. search rules) (λ c. search rules) (λ c. search rules) (λ c. search rules) returns)

@@ -21,7 +21,7 @@ use Rattle.correction32.proofs.apply_correction.Tie as tie
 abbrev head : tie.Start → Head
 head c =
     let a = c.args in
-    record { n = a.n; m = a.m; x = a.x.now; p = a.p.now; z = a.z.now; measured = wide_kinds a.decreases; zm = a.zm.now; s = a.s.now; xm = a.xm.now; c = a.c.now }
+    record { n = a.n; m = a.m; x = a.x.now; p = a.p.now; z = a.z.now; measured = wide_kinds a.measured; zm = a.zm.now; s = a.s.now; xm = a.xm.now; c = a.c.now }
 
 abbrev whole : tie.Start → Outcome Moment
 whole c = run (apply_plan binary32 (head c))

@@ -38,7 +38,7 @@ returns c =
     let xm = x.before.before.before.before.before.anchored-mean2.ensures in
     let dx = x.before.before.before.deviations2.ensures ∙ ap (λ (u : List Float). deviations_of binary32 a.points.now a.n t u (wide_kinds a.kinds)) xm in
     from_head binary32
-    (record { n = a.n; m = a.m; x = a.x.now; p = a.p.now; z = a.z.now; measured = widened (wide_kinds a.decreases); zm = y.anchored-mean.result; s = p.plus.result; xm = x.before.before.before.before.before.anchored-mean2.result; c = x.spread2.result })
+    (record { n = a.n; m = a.m; x = a.x.now; p = a.p.now; z = a.z.now; measured = widened (wide_kinds a.measured); zm = y.anchored-mean.result; s = p.plus.result; xm = x.before.before.before.before.before.anchored-mean2.result; c = x.spread2.result })
     (rw (← wide) c.apply-correction.ensures) zm
     (p.plus.ensures ∙ ap (plus_of binary32 (a.m * a.m) a.r.now) (p.before.before.spread.ensures ∙ ap (λ (d : List Float). spread_of binary32 d a.m d a.m a.w.now t) dz)) xm
     (x.spread2.ensures ∙ ap₂ (λ (d e : List Float). spread_of binary32 d a.n e a.m a.w.now t) dx dz)

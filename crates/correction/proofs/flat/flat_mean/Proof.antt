@@ -8,28 +8,28 @@ use Rattle.correction.specs.Flat.{flat_mean_at}
 use Rattle.correction.proofs.flat.flat_mean.Statement.{statement}
 use Rattle.correction.proofs.flat.flat_mean.Tie as tie
 
-abbrev invariant-loop : tie.invariant-loop
-invariant-loop p d t mean₀ i₀ mean i = (i ≤ d) × Places (flat_mean_at binary64 p d t) (zeros 8) i mean
+abbrev invariant-loop-i : tie.invariant-loop-i
+invariant-loop-i p d t mean₀ i₀ mean i = (i ≤ d) × Places (flat_mean_at binary64 p d t) (zeros 8) i mean
 
-abbrev decreases-loop : tie.decreases-loop
-decreases-loop p d t mean₀ i₀ mean i = d - i
+abbrev decreases-loop-i : tie.decreases-loop-i
+decreases-loop-i p d t mean₀ i₀ mean i = d - i
 
-loop-holds : tie.Need-loop-init invariant-loop decreases-loop
+loop-holds : tie.Need-loop-i-init invariant-loop-i decreases-loop-i
 unfolding of_bits zeros
 loop-holds c = (omega arith, places_none)
 
-loop-again : tie.Need-loop-preserved invariant-loop decreases-loop
-loop-again c = (omega arith, places_more c.before.before.loop.invariant.1 c.mean-at.ensures)
+loop-again : tie.Need-loop-i-preserved invariant-loop-i decreases-loop-i
+loop-again c = (omega arith, places_more c.loop-i.invariant.1 c.mean_at.ensures)
 
-returns : tie.Need-returns invariant-loop decreases-loop
-returns c = places_end c.before.loop.invariant.1 (omega arith)
+returns : tie.Need-returns invariant-loop-i decreases-loop-i
+returns c = places_end c.loop-i.invariant.1 (omega arith)
 
-pub flat-mean-spec : {M : Type 1} → statement M
-flat-mean-spec =
+pub flat_mean_spec : {M : Type 1} → statement M
+flat_mean_spec =
     tie.close
     (tie.spec
-    invariant-loop
-    decreases-loop
+    invariant-loop-i
+    decreases-loop-i
     loop-holds
     (λ c κs. (omega arith, omega arith, omega arith))
     (λ c. omega arith)

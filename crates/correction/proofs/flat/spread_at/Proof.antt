@@ -9,30 +9,30 @@ use Rattle.floats.specs.Numbers.{plus_zero}
 use Rattle.correction.proofs.flat.spread_at.Statement.{statement}
 use Rattle.correction.proofs.flat.spread_at.Tie as tie
 
-abbrev invariant-loop : tie.invariant-loop
-invariant-loop a da i b db j t s₀ k₀ s k = (k ≤ t + 1) × Total (add binary64) plus_zero (λ (l : ℕ). mul binary64 (get_or a (l * da + i) nan) (get_or b (l * db + j) nan)) k s
+abbrev invariant-loop-k : tie.invariant-loop-k
+invariant-loop-k a da i b db j t s₀ k₀ s k = (k ≤ t + 1) × Total (add binary64) plus_zero (λ (l : ℕ). mul binary64 (get_or a (l * da + i) nan) (get_or b (l * db + j) nan)) k s
 
-abbrev decreases-loop : tie.decreases-loop
-decreases-loop a da i b db j t s₀ k₀ s k = t + 1 - k
+abbrev decreases-loop-k : tie.decreases-loop-k
+decreases-loop-k a da i b db j t s₀ k₀ s k = t + 1 - k
 
-loop-holds : tie.Need-loop-init invariant-loop decreases-loop
+loop-holds : tie.Need-loop-k-init invariant-loop-k decreases-loop-k
 unfolding of_bits
 loop-holds c = (omega arith, total_none)
 
-loop-again : tie.Need-loop-preserved invariant-loop decreases-loop
+loop-again : tie.Need-loop-k-preserved invariant-loop-k decreases-loop-k
 loop-again c =
     let at = c.before.before in
-    (omega arith, total_more at.before.before.before.loop.invariant.1 (rw (← at.before.place.ensures.0, ← at.place2.ensures.0)))
+    (omega arith, total_more at.loop-k.invariant.1 (rw (← at.place-x.ensures.0, ← at.place-y.ensures.0)))
 
-returns : tie.Need-returns invariant-loop decreases-loop
-returns c = ap₂ (λ (s n : Float). div binary64 s n) (total_end c.before.before.loop.invariant.1 (omega arith)) c.count.ensures
+returns : tie.Need-returns invariant-loop-k decreases-loop-k
+returns c = ap₂ (λ (s n : Float). div binary64 s n) (total_end c.loop-k.invariant.1 (omega arith)) c.count.ensures
 
-pub spread-at-spec : {M : Type 1} → statement M
-spread-at-spec =
+pub spread_at_spec : {M : Type 1} → statement M
+spread_at_spec =
     tie.close
     (tie.spec
-    invariant-loop
-    decreases-loop
+    invariant-loop-k
+    decreases-loop-k
     loop-holds
     (λ c κs. (omega arith, omega arith, omega arith))
     (λ c κs. (omega arith, omega arith, omega arith))
