@@ -10,43 +10,43 @@ use Rattle.pieces.proofs.Turns.{each_none, each_next, each_end}
 use Rattle.pieces.proofs.kinds.all_formed.Statement.{statement}
 use Rattle.pieces.proofs.kinds.all_formed.Tie as tie
 
-abbrev invariant-loop : tie.invariant-loop
-invariant-loop s at n i₀ i = (i ≤ n) × (all_true (read_each 9 formed (n - i) (drop (at + 9 * i) s)) ≡ all_true (read_each 9 formed n (drop at s)))
+abbrev invariant-loop-i : tie.invariant-loop-i
+invariant-loop-i s at n i₀ i = (i ≤ n) × (all_true (read_each 9 formed (n - i) (drop (at + 9 * i) s)) ≡ all_true (read_each 9 formed n (drop at s)))
 
-abbrev decreases-loop : tie.decreases-loop
-decreases-loop s at n i₀ i = n - i
+abbrev decreases-loop-i : tie.decreases-loop-i
+decreases-loop-i s at n i₀ i = n - i
 
-loop-holds : tie.Need-loop-init invariant-loop decreases-loop
-loop-holds c = let a = c.before.args in (omega arith, ap all_true (each_none 9 formed a.s.now a.at a.n))
+loop-holds : tie.Need-loop-i-init invariant-loop-i decreases-loop-i
+loop-holds c = let a = c.args in (omega arith, ap all_true (each_none 9 formed a.s.now a.at a.n))
 
-returns : tie.Need-returns invariant-loop decreases-loop
+returns : tie.Need-returns-then-not-is_formed invariant-loop-i decreases-loop-i
 returns c =
     let l = c.before.before.before in
-    let a = l.before.before.args in
-    sym (ap (λ (t : Bool). t && all_true (read_each 9 formed (a.n - (l.loop.i + 1)) (drop (a.at + 9 * (l.loop.i + 1)) a.s.now))) (sym c.before.is-formed.ensures ∙ not-true _ c.if1.true))
-    ∙ sym (ap all_true (each_next 9 formed a.s.now a.at a.n l.loop.i (omega arith))) ∙ l.loop.invariant.1
+    let a = l.args in
+    sym (ap (λ (t : Bool). t && all_true (read_each 9 formed (a.n - (l.loop-i.i + 1)) (drop (a.at + 9 * (l.loop-i.i + 1)) a.s.now))) (sym c.is_formed.ensures ∙ not-true _ c.if-not-is_formed.true-raw))
+    ∙ sym (ap all_true (each_next 9 formed a.s.now a.at a.n l.loop-i.i (omega arith))) ∙ l.loop-i.invariant.1
 
-loop-again : tie.Need-loop-preserved invariant-loop decreases-loop
+loop-again : tie.Need-loop-i-preserved invariant-loop-i decreases-loop-i
 loop-again c =
     let l = c.before.before.before in
-    let a = l.before.before.args in (
+    let a = l.args in (
       omega arith,
-      sym (ap (λ (t : Bool). t && all_true (read_each 9 formed (a.n - (l.loop.i + 1)) (drop (a.at + 9 * (l.loop.i + 1)) a.s.now))) (sym c.before.is-formed.ensures ∙ not-false _ c.if1.false))
-          ∙ sym (ap all_true (each_next 9 formed a.s.now a.at a.n l.loop.i (omega arith))) ∙ l.loop.invariant.1,
+      sym (ap (λ (t : Bool). t && all_true (read_each 9 formed (a.n - (l.loop-i.i + 1)) (drop (a.at + 9 * (l.loop-i.i + 1)) a.s.now))) (sym c.is_formed.ensures ∙ not-false _ c.if-not-is_formed.false-raw))
+          ∙ sym (ap all_true (each_next 9 formed a.s.now a.at a.n l.loop-i.i (omega arith))) ∙ l.loop-i.invariant.1,
     )
 
-returns-2 : tie.Need-returns-2 invariant-loop decreases-loop
+returns-2 : tie.Need-returns invariant-loop-i decreases-loop-i
 returns-2 c =
     let l = c.before in
-    let a = l.before.before.args in
-    sym (ap all_true (each_end 9 formed (drop (a.at + 9 * l.loop.i) a.s.now) a.n l.loop.i (omega arith))) ∙ l.loop.invariant.1
+    let a = l.args in
+    sym (ap all_true (each_end 9 formed (drop (a.at + 9 * l.loop-i.i) a.s.now) a.n l.loop-i.i (omega arith))) ∙ l.loop-i.invariant.1
 
-pub all-formed-spec : {M : Type 1} → statement M
-all-formed-spec =
+pub all_formed_spec : {M : Type 1} → statement M
+all_formed_spec =
     tie.close
     (tie.spec
-    invariant-loop
-    decreases-loop
+    invariant-loop-i
+    decreases-loop-i
     loop-holds
     (λ c. omega arith)
     (λ c. omega arith)

@@ -6,11 +6,11 @@ use Rattle.pieces.proofs.Back.{plain_read, turn_read}
 use Rattle.pieces.proofs.kinds.kind_at.Statement.{statement}
 use Rattle.pieces.proofs.kinds.kind_at.Tie as tie
 
-returns : tie.Need-returns
-returns c = let a = c.before.before.before.args in plain_read a.s.now a.at c.if1.true
+returns : tie.Need-returns-then-s-at-eq0
+returns c = let a = c.args in plain_read a.s.now a.at c.if-s-at-eq0.true
 
-returns-2 : tie.Need-returns-2
-returns-2 c = let a = c.before.before.before.before.before.args in turn_read a.s.now a.at c.before.before.if1.false (c.float_of.ensures ∙ ap (of_bits binary64) c.before.word_at.ensures)
+returns-2 : tie.Need-returns
+returns-2 c = let a = c.args in turn_read a.s.now a.at c.if-s-at-eq0.false (c.float_of-h.ensures ∙ ap (of_bits binary64) c.word_at-b.ensures)
 
-pub kind-at-spec : {M : Type 1} → statement M
-kind-at-spec = tie.close (tie.spec (λ c. search rules) returns (λ c. search rules) (λ c κs. search rules) (λ c κs. search rules) returns-2)
+pub kind_at_spec : {M : Type 1} → statement M
+kind_at_spec = tie.close (tie.spec (λ c. search rules) returns (λ c. search rules) (λ c κs. search rules) (λ c κs. search rules) returns-2)

@@ -7,7 +7,7 @@ use Rattle.pieces.proofs.numbers.number_at.Statement.{statement}
 use Rattle.pieces.proofs.numbers.number_at.Tie as tie
 
 returns : tie.Need-returns
-returns c = c.float_of.ensures ∙ ap (of_bits binary64) c.before.word_at.ensures ∙ sym (number_read _)
+returns c = c.float_of.ensures ∙ ap (of_bits binary64) c.word_at-b.ensures ∙ sym (number_read _)
 
-pub number-at-spec : {M : Type 1} → statement M
-number-at-spec = tie.close (tie.spec (λ c κs. search rules) (λ c κs. search rules) returns)
+pub number_at_spec : {M : Type 1} → statement M
+number_at_spec = tie.close (tie.spec (λ c κs. search rules) (λ c κs. search rules) returns)

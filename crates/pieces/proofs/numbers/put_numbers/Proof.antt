@@ -11,37 +11,37 @@ use Rattle.pieces.proofs.Back.{number_written, length_number}
 use Rattle.pieces.proofs.numbers.put_numbers.Statement.{statement}
 use Rattle.pieces.proofs.numbers.put_numbers.Tie as tie
 
-abbrev invariant-loop : tie.invariant-loop
-invariant-loop l k out₀ at i₀ out i = (i ≤ k) × Writing 8 number_bytes l k out₀ at i out
+abbrev invariant-loop-i : tie.invariant-loop-i
+invariant-loop-i l k out₀ at i₀ out i = (i ≤ k) × Writing 8 number_bytes l k out₀ at i out
 
-abbrev decreases-loop : tie.decreases-loop
-decreases-loop l k out₀ at i₀ out i = k - i
+abbrev decreases-loop-i : tie.decreases-loop-i
+decreases-loop-i l k out₀ at i₀ out i = k - i
 
-put-word-requires : tie.Need-put-word-requires invariant-loop decreases-loop
-put-word-requires c κs = omega (arith, c.before.before.before.before.loop.invariant.1.long)
+put-word-requires : tie.Need-put_word-requires invariant-loop-i decreases-loop-i
+put-word-requires c κs = omega (arith, c.loop-i.invariant.1.long)
 
-loop-again : tie.Need-loop-preserved invariant-loop decreases-loop
+loop-again : tie.Need-loop-i-preserved invariant-loop-i decreases-loop-i
 loop-again c =
     let d = c.before.before in
     let l = d.before.before.before.before.before in
-    let a = l.before.before.before.args in (
+    let a = l.args in (
       omega arith,
-      writing_more l.loop.invariant.1 nan (omega arith) (omega arith) (length_number _)
-          (d.put_word.ensures ∙ ap (λ (b : ℕ). sets l.loop.out (a.at + 8 * l.loop.i) (little_endian 8 b)) d.before.before.bits_of.ensures ∙ ap (sets l.loop.out (a.at + 8 * l.loop.i)) (sym (number_written _))),
+      writing_more l.loop-i.invariant.1 nan (omega arith) (omega arith) (length_number _)
+          (d.put_word.ensures ∙ ap (λ (b : ℕ). sets l.loop-i.out (a.at + 8 * l.loop-i.i) (little_endian 8 b)) d.bits_of-b.ensures ∙ ap (sets l.loop-i.out (a.at + 8 * l.loop-i.i)) (sym (number_written _))),
     )
 
-same_length : tie.Need-same-length invariant-loop decreases-loop
-same_length c = c.before.loop.invariant.1.long
+same_length : tie.Need-shape_of-out invariant-loop-i decreases-loop-i
+same_length c = c.loop-i.invariant.1.long
 
-returns : tie.Need-returns invariant-loop decreases-loop
-returns c = writing_end c.before.loop.invariant.1 (omega arith)
+returns : tie.Need-returns invariant-loop-i decreases-loop-i
+returns c = writing_end c.loop-i.invariant.1 (omega arith)
 
-pub put-numbers-spec : {M : Type 1} → statement M
-put-numbers-spec =
+pub put_numbers_spec : {M : Type 1} → statement M
+put_numbers_spec =
     tie.close
     (tie.spec
-    invariant-loop
-    decreases-loop
+    invariant-loop-i
+    decreases-loop-i
     (λ c. (omega arith, writing_none))
     (λ c. omega arith)
     (λ c. omega arith)

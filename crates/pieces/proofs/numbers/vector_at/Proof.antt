@@ -7,7 +7,7 @@ use Rattle.pieces.proofs.numbers.vector_at.Tie as tie
 
 returns : tie.Need-returns
 unfolding zeros of_bits
-returns c = c.before.numbers-at.ensures
+returns c = c.numbers_at.ensures
 
-pub vector-at-spec : {M : Type 1} → statement M
-vector-at-spec = tie.close (tie.spec (λ c. search rules) (λ c κs. search rules) returns)
+pub vector_at_spec : {M : Type 1} → statement M
+vector_at_spec = tie.close (tie.spec (λ c. search rules) (λ c κs. search rules) returns)
