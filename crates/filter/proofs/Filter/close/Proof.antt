@@ -6,9 +6,9 @@ use Rattle.floats.specs.Numbers.{zeros}
 use Rattle.filter.proofs.Filter.close.Statement.{statement}
 use Rattle.filter.proofs.Filter.close.Tie as tie
 
-returns-2 : tie.Need-returns-2
+returns-2 : tie.Need-returns
 unfolding zeros of_bits
-returns-2 c = rw (c.nothing-kept.ensures, eq-eqb _ _ c.before.before.before.before.before.if1.false)
+returns-2 c = rw (c.nothing_kept-kept.ensures, eq-eqb _ _ c.if-refusal-ne0.false)
 
 pub close_spec : {M : Type 1} → statement M
-close_spec = tie.close (tie.spec (λ c. rw (ne_eqb _ _ c.if1.true)) (λ c κs. search rules) returns-2)
+close_spec = tie.close (tie.spec (λ c. rw (ne_eqb _ _ c.if-refusal-ne0.true)) (λ c κs. search rules) returns-2)

@@ -8,34 +8,34 @@ use Rattle.filter.proofs.checks.early_refusal.Statement.{statement}
 use Rattle.filter.proofs.checks.early_refusal.Tie as tie
 
 -- what has passed, test after test
-fits-at : (c : tie.Else1) → c.before.args.fits ≡ true
-fits-at c = not-false _ c.if1.false
+fits-at : (c : tie.Else-not-fits) → c.args.fits ≡ true
+fits-at c = not-false _ c.if-not-fits.false-raw
 
-sized-at : (c : tie.Else2) → c.before.before.args.sized ≡ true
-sized-at c = not-false _ c.if2.false
+sized-at : (c : tie.Else-not-sized) → c.args.sized ≡ true
+sized-at c = not-false _ c.if-not-sized.false-raw
 
-long-at : (c : tie.Else3) → c.before.before.before.args.long ≡ true
-long-at c = not-false _ c.if3.false
+long-at : (c : tie.Else-not-long) → c.args.long ≡ true
+long-at c = not-false _ c.if-not-long.false-raw
 
-returns : tie.Need-returns
+returns : tie.Need-returns-then-not-fits
 unfolding in_order
-returns c = let e : c.before.before.args.fits ≡ false = not-true _ c.before.if1.true in rw (c.placeless.ensures, e)
+returns c = let e : c.args.fits ≡ false = not-true _ c.if-not-fits.true-raw in rw (c.placeless.ensures, e)
 
-returns-2 : tie.Need-returns-2
+returns-2 : tie.Need-returns-then-not-sized
 unfolding in_order
-returns-2 c = let d = c.before.before in let e : d.before.args.sized ≡ false = not-true _ c.before.if2.true in rw (c.placeless2.ensures, fits-at d, e)
+returns-2 c = let d = c.before.before in let e : d.args.sized ≡ false = not-true _ c.if-not-sized.true-raw in rw (c.placeless-then-not-sized.ensures, fits-at d, e)
 
-returns-3 : tie.Need-returns-3
+returns-3 : tie.Need-returns-then-not-long
 unfolding in_order
-returns-3 c = let d = c.before.before in let e : d.before.before.args.long ≡ false = not-true _ c.before.if3.true in rw (c.placeless3.ensures, fits-at d.before, sized-at d, e)
+returns-3 c = let d = c.before.before in let e : d.args.long ≡ false = not-true _ c.if-not-long.true-raw in rw (c.placeless-then-not-long.ensures, fits-at d.before, sized-at d, e)
 
-returns-4 : tie.Need-returns-4
+returns-4 : tie.Need-returns-then-stale
 unfolding in_order
-returns-4 c = let d = c.before.before in rw (c.placeless4.ensures, fits-at d.before.before, sized-at d.before, long-at d, c.before.if4.true)
+returns-4 c = let d = c.before.before in rw (c.placeless-then-stale.ensures, fits-at d.before.before, sized-at d.before, long-at d, c.if-stale.true)
 
-returns-5 : tie.Need-returns-5
+returns-5 : tie.Need-returns
 unfolding in_order
-returns-5 c = let d = c.before.before in rw (c.placeless5.ensures, fits-at d.before.before, sized-at d.before, long-at d, c.before.if4.false)
+returns-5 c = let d = c.before.before in rw (c.placeless-2.ensures, fits-at d.before.before, sized-at d.before, long-at d, c.if-stale.false)
 
-pub early-refusal-spec : {M : Type 1} → statement M
-early-refusal-spec = tie.close (tie.spec (λ c κs. search rules) returns (λ c κs. search rules) returns-2 (λ c κs. search rules) returns-3 (λ c κs. search rules) returns-4 (λ c κs. search rules) returns-5)
+pub early_refusal_spec : {M : Type 1} → statement M
+early_refusal_spec = tie.close (tie.spec (λ c κs. search rules) returns (λ c κs. search rules) returns-2 (λ c κs. search rules) returns-3 (λ c κs. search rules) returns-4 (λ c κs. search rules) returns-5)

@@ -9,5 +9,5 @@ returns : tie.Need-returns
 unfolding zeros of_bits
 returns c = refl
 
-pub nothing-kept-spec : {M : Type 1} → statement M
-nothing-kept-spec = tie.close (tie.spec returns)
+pub nothing_kept_spec : {M : Type 1} → statement M
+nothing_kept_spec = tie.close (tie.spec returns)

@@ -7,7 +7,7 @@ use Rattle.filter.proofs.drawn.shut.Tie as tie
 
 returns : tie.Need-returns
 unfolding zeros of_bits
-returns c = c.with-drawn.ensures
+returns c = c.with_drawn.ensures
 
-pub shut-spec : {M : Type 1} → statement M
-shut-spec = tie.close (tie.spec (λ c κs. search rules) returns)
+pub shut_spec : {M : Type 1} → statement M
+shut_spec = tie.close (tie.spec (λ c κs. search rules) returns)

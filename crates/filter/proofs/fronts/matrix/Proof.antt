@@ -7,7 +7,7 @@ use Rattle.filter.proofs.fronts.matrix.Tie as tie
 
 returns : tie.Need-returns
 unfolding zeros of_bits
-returns c = c.before.copy-front.ensures
+returns c = c.copy_front.ensures
 
-pub matrix-spec : {M : Type 1} → statement M
-matrix-spec = tie.close (tie.spec (λ c. search rules) (λ c κs. search rules) returns)
+pub matrix_spec : {M : Type 1} → statement M
+matrix_spec = tie.close (tie.spec (λ c. search rules) (λ c κs. search rules) returns)

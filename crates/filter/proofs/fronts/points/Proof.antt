@@ -7,7 +7,7 @@ use Rattle.filter.proofs.fronts.points.Tie as tie
 
 returns : tie.Need-returns
 unfolding zeros of_bits
-returns c = c.before.copy-front.ensures
+returns c = c.copy_front.ensures
 
-pub points-spec : {M : Type 1} → statement M
-points-spec = tie.close (tie.spec (λ c. search rules) (λ c κs. search rules) returns)
+pub points_spec : {M : Type 1} → statement M
+points_spec = tie.close (tie.spec (λ c. search rules) (λ c κs. search rules) returns)

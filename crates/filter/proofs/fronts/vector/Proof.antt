@@ -7,7 +7,7 @@ use Rattle.filter.proofs.fronts.vector.Tie as tie
 
 returns : tie.Need-returns
 unfolding zeros of_bits
-returns c = c.before.copy-front.ensures
+returns c = c.copy_front.ensures
 
-pub vector-spec : {M : Type 1} → statement M
-vector-spec = tie.close (tie.spec (λ c. search rules) (λ c κs. search rules) returns)
+pub vector_spec : {M : Type 1} → statement M
+vector_spec = tie.close (tie.spec (λ c. search rules) (λ c κs. search rules) returns)

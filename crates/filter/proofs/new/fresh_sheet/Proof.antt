@@ -3,5 +3,5 @@ use mathlib.Core.Path.{refl}
 use Rattle.filter.proofs.new.fresh_sheet.Statement.{statement}
 use Rattle.filter.proofs.new.fresh_sheet.Tie as tie
 
-pub fresh-sheet-spec : {M : Type 1} → statement M
-fresh-sheet-spec = tie.close (tie.spec (λ c. refl))
+pub fresh_sheet_spec : {M : Type 1} → statement M
+fresh_sheet_spec = tie.close (tie.spec (λ c. refl))

@@ -7,7 +7,7 @@ use Rattle.filter.proofs.new.fresh_track.Tie as tie
 
 returns : tie.Need-returns
 unfolding zeros of_bits
-returns c = rw c.nothing-kept.ensures
+returns c = rw c.nothing_kept-kept.ensures
 
-pub fresh-track-spec : {M : Type 1} → statement M
-fresh-track-spec = tie.close (tie.spec (λ c κs. search rules) returns)
+pub fresh_track_spec : {M : Type 1} → statement M
+fresh_track_spec = tie.close (tie.spec (λ c κs. search rules) returns)

@@ -5,13 +5,13 @@ use Rattle.filter.specs.New.{sooner}
 use Rattle.filter.proofs.new.sooner.Statement.{statement}
 use Rattle.filter.proofs.new.sooner.Tie as tie
 
-returns : tie.Need-returns
+returns : tie.Need-returns-then-b-eq2
 unfolding sooner
-returns c = rw (eq-eqb _ _ c.if1.true)
+returns c = rw (eq-eqb _ _ c.if-b-eq2.true)
 
-returns-2 : tie.Need-returns-2
+returns-2 : tie.Need-returns
 unfolding sooner
-returns-2 c = rw (ne_eqb _ _ c.before.if1.false) c.earlier.ensures
+returns-2 c = rw (ne_eqb _ _ c.if-b-eq2.false) c.earlier.ensures
 
-pub sooner-spec : {M : Type 1} → statement M
-sooner-spec = tie.close (tie.spec returns (λ c κs. search rules) returns-2)
+pub sooner_spec : {M : Type 1} → statement M
+sooner_spec = tie.close (tie.spec returns (λ c κs. search rules) returns-2)

@@ -10,8 +10,8 @@ use Rattle.filter.proofs.tests.all_long.Tie as tie
 
 returns : tie.Need-returns
 returns c =
-    let a = c.before.before.before.before.before.args in
-    c.both2.ensures ∙ ap (λ (t : Bool). leb a.i (length a.a.now) && t) (c.before.both.ensures ∙ ap (λ (t : Bool). leb a.j (length a.b.now) && t) (sym (and_true _)))
+    let a = c.args in
+    c.both.ensures ∙ ap (λ (t : Bool). leb a.i (length a.a.now) && t) (c.both-rest.ensures ∙ ap (λ (t : Bool). leb a.j (length a.b.now) && t) (sym (and_true _)))
 
-pub all-long-spec : {M : Type 1} → statement M
-all-long-spec = tie.close (tie.spec (λ c κs. search rules) (λ c κs. search rules) returns)
+pub all_long_spec : {M : Type 1} → statement M
+all_long_spec = tie.close (tie.spec (λ c κs. search rules) (λ c κs. search rules) returns)
