@@ -25,56 +25,56 @@ use Rattle.stepped.proofs.Seen.{fits_seen, asked_is}
 use Rattle.stepped.proofs.ask.Statement.{statement}
 use Rattle.stepped.proofs.ask.Tie as tie
 
-abbrev start : tie.After-early-refusal → tie.Start
+abbrev start : tie.After-early_refusal-refusal → tie.Start
 start c = c.before.before.before.before.before.before.before.before.before
 
 abbrev call : tie.Start → Call
 call s = stepping (ask s.args.out.now)
 
-abbrev asked : (c : tie.After-early-refusal) → Told binary64 (start c).args.f (call (start c))
+abbrev asked : (c : tie.After-early_refusal-refusal) → Told binary64 (start c).args.f (call (start c))
 asked c =
     let s = (start c).args.f in
     let fit = c.before.before in record {
       told = _;
       is =
-          tested_early binary64 (asks s (call (start c))) nothing c.early-refusal.ensures
-          (fit.both.ensures ∙ ap₂ (λ (x y : Bool). x && y) fit.before.before.is-stepped.ensures fit.before.has-point.ensures)
-          (c.before.is-sized.ensures ∙ sym (and_true _))
+          tested_early binary64 (asks s (call (start c))) nothing c.early_refusal-refusal.ensures
+          (fit.both-fits.ensures ∙ ap₂ (λ (x y : Bool). x && y) fit.is_stepped-stepped.ensures fit.has_point-due.ensures)
+          (c.is_sized-sized.ensures ∙ sym (and_true _))
           (λ h. sym (and_true _)) refl refl refl (λ h. none) refl (λ h. refl)
           ∙ ap (λ (b : Bool). first_refusal binary64 (asking b s.sheet.n (calls.needs s (call (start c))))) (sym (fits_seen s (call (start c))));
     }
 
-returns : tie.Need-returns
-returns c = let t = asked c.before.before in by_step t _ (refused_before t c.if1.true) refl refl
+returns : tie.Need-returns-then-refusal-ne0
+returns c = let t = asked c.before.before in by_step t _ (refused_before t c.if-refusal-ne0.true) refl refl
 
 -- where it went on past its tests
-abbrev begun : tie.Else1 → tie.Start
+abbrev begun : tie.Else-refusal-ne0 → tie.Start
 begun c = start c.before.before
 
-fitting : (c : tie.Else1) → fits (call (begun c)) (begun c).args.f ≡ true
-fitting c = sym (fits_seen (begun c).args.f (call (begun c))) ∙ (all_passed (asked c.before.before) c.if1.false).fits
+fitting : (c : tie.Else-refusal-ne0) → fits (call (begun c)) (begun c).args.f ≡ true
+fitting c = sym (fits_seen (begun c).args.f (call (begun c))) ∙ (all_passed (asked c.before.before) c.if-refusal-ne0.false).fits
 
 -- the point that is due lies within those drawn
-within-drawn : (c : tie.Else1) → let s = (begun c).args.f in (s.track.kept.at * s.sheet.n + s.sheet.n ≤ 136) × (s.sheet.n ≤ length (begun c).args.out.now)
+within-drawn : (c : tie.Else-refusal-ne0) → let s = (begun c).args.f in (s.track.kept.at * s.sheet.n + s.sheet.n ≤ 136) × (s.sheet.n ≤ length (begun c).args.out.now)
 within-drawn c =
     let s = (begun c).args.f in
-    let p = all_passed (asked c.before.before) c.if1.false in
+    let p = all_passed (asked c.before.before) c.if-refusal-ne0.false in
     let h = sized_le binary64 p in
     let l = leb-true s.track.kept.at (s.sheet.n + s.sheet.n) (and_right (is_stepped s.track.stage) _ (fitting c)) in
     (omega (arith, product_le s.track.kept.at s.sheet.n 16 8 (omega (arith, l, h)) h, h), long_le binary64 p)
 
 -- where the point is copied
-abbrev passed : tie.After-points → tie.Else1
+abbrev passed : tie.After-points-1 → tie.Else-refusal-ne0
 passed c = c.before.before
 
-slice-aggregate-copy : tie.Need-slice-aggregate-copy
+slice-aggregate-copy : tie.Need-slice_bounds-copy-end
 slice-aggregate-copy c = search rules
 
 pasted-over : (b v : List Float) (k : ℕ) → k ≤ length v → paste b 0 v k ≡ over (take k v) b
 unfolding front
 pasted-over b v k h = let z : 0 + k ≡ k = omega arith in ap (λ (j : ℕ). take k v ++ drop j b) z ∙ front_over k v b h
 
-returns-2 : tie.Need-returns-2
+returns-2 : tie.Need-returns
 returns-2 c =
     let d = c.before.before in
     let w = d.before.before.before in
@@ -83,14 +83,14 @@ returns-2 c =
     let a = (begun e).args in
     let s = a.f in
     let i = s.track.kept.at * s.sheet.n in
-    let v = w.before.drawn.result in
-    by_step t _ (finished t e.if1.left (asked_is binary64 s a.out.now (and_left (is_stepped s.track.stage) _ (fitting e))))
-    (ap (λ (x : Verdict). answering x (filter s.sheet (with_kept s.track (asked_for s.track.kept)))) (told_taken t e.if1.left))
+    let v = w.drawn-points.result in
+    by_step t _ (finished t e.if-refusal-ne0.false (asked_is binary64 s a.out.now (and_left (is_stepped s.track.stage) _ (fitting e))))
+    (ap (λ (x : Verdict). answering x (filter s.sheet (with_kept s.track (asked_for s.track.kept)))) (told_taken t e.if-refusal-ne0.false))
     (d.copy.ensures ∙ pasted-over a.out.now (drop i v) s.sheet.n (omega (arith, length-drop i v, slice-aggregate-copy w, (within-drawn e).0))
-    ∙ ap (λ (u : List Float). over (take s.sheet.n (drop i u)) a.out.now) w.before.drawn.ensures)
+    ∙ ap (λ (u : List Float). over (take s.sheet.n (drop i u)) a.out.now) w.drawn-points.ensures)
 
-pub ask-spec : {M : Type 1} → statement M
-ask-spec =
+pub ask_spec : {M : Type 1} → statement M
+ask_spec =
     tie.close
     (tie.spec
     (λ c κs. search rules)

@@ -11,32 +11,32 @@ use Rattle.stepped.proofs.Ways.{Tested, ready, unready}
 use Rattle.stepped.proofs.close_correction_flat.Statement.{statement}
 use Rattle.stepped.proofs.close_correction_flat.Tie as tie
 
-abbrev start : tie.After-unready → tie.Start
+abbrev start : tie.After-unready-refusal → tie.Start
 start c = c.before.before.before.before.before.before.before
 
 abbrev call : tie.Start → SteppedClose
 call s = let a = s.args in close_correction_flat_stepped a.m a.z.now a.r.now
 
-abbrev tested : (c : tie.After-unready) → Tested (start c).args.f (call (start c)) c.unready.result
-tested c = record { mine = c.before.before.is-correcting-stepped.result; names = c.before.is-named.result; is = c.unready.ensures; mine_is = c.before.before.is-correcting-stepped.ensures; names_is = c.before.is-named.ensures }
+abbrev tested : (c : tie.After-unready-refusal) → Tested (start c).args.f (call (start c)) c.unready-refusal.result
+tested c = record { mine = c.is_correcting_stepped-own.result; names = c.is_named-named.result; is = c.unready-refusal.ensures; mine_is = c.is_correcting_stepped-own.ensures; names_is = c.is_named-named.ensures }
 
-returns-2 : tie.Need-returns-2
+returns-2 : tie.Need-returns
 returns-2 c =
     let i = c.before.before.before.before in
     let d = i.before.before.before in
     let a = (start d).args in
-    c.unless-refused.ensures
-    ∙ ap (unless_refused a.f) (c.before.close-correction-flat.ensures ∙ ap₂ (λ (g : Filter) (v : List Float). answered (step binary64 g (closing (close_correction_flat a.m a.z.now a.r.now v)))) c.before.before.before.at_stage.ensures i.images.ensures)
-    ∙ sym (ready binary64 (tested d) i.before.if1.false)
+    c.unless_refused.ensures
+    ∙ ap (unless_refused a.f) (c.close_correction_flat-a.ensures ∙ ap₂ (λ (g : Filter) (v : List Float). answered (step binary64 g (closing (close_correction_flat a.m a.z.now a.r.now v)))) c.at_stage-g.ensures i.images-images.ensures)
+    ∙ sym (ready binary64 (tested d) i.if-refusal-ne0.false)
 
-pub close-correction-flat-spec : {M : Type 1} → statement M
-close-correction-flat-spec =
+pub close_correction_flat_spec : {M : Type 1} → statement M
+close_correction_flat_spec =
     tie.close
     (tie.spec
     (λ c κs. search rules)
     (λ c κs. search rules)
     (λ c κs. search rules)
-    (λ c. unready binary64 (tested c.before.before) c.if1.true)
+    (λ c. unready binary64 (tested c.before.before) c.if-refusal-ne0.true)
     (λ c κs. search rules)
     (λ c κs. search rules)
     (λ c. search rules)

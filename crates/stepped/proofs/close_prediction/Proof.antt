@@ -12,27 +12,27 @@ use Rattle.stepped.proofs.Ways.{Tested, ready, unready}
 use Rattle.stepped.proofs.close_prediction.Statement.{statement}
 use Rattle.stepped.proofs.close_prediction.Tie as tie
 
-abbrev start : tie.After-unready → tie.Start
+abbrev start : tie.After-unready-refusal → tie.Start
 start c = c.before.before.before.before
 
-abbrev tested : (c : tie.After-unready) → Tested (start c).args.f close_prediction_stepped c.unready.result
-tested c = record { mine = c.before.is-predicting-stepped.result; names = true; is = c.unready.ensures; mine_is = c.before.is-predicting-stepped.ensures; names_is = refl }
+abbrev tested : (c : tie.After-unready-refusal) → Tested (start c).args.f close_prediction_stepped c.unready-refusal.result
+tested c = record { mine = c.is_predicting_stepped-own.result; names = true; is = c.unready-refusal.ensures; mine_is = c.is_predicting_stepped-own.ensures; names_is = refl }
 
-returns-2 : tie.Need-returns-2
+returns-2 : tie.Need-returns
 returns-2 c =
     let i = c.before.before.before.before in
     let d = i.before.before.before in
-    c.unless-refused.ensures
-    ∙ ap (unless_refused (start d).args.f) (c.before.close-prediction.ensures ∙ ap₂ (λ (g : Filter) (v : List Float). answered (step binary64 g (closing (close_prediction v)))) c.before.before.before.at_stage.ensures i.images.ensures)
-    ∙ sym (ready binary64 (tested d) i.before.if1.false)
+    c.unless_refused.ensures
+    ∙ ap (unless_refused (start d).args.f) (c.close_prediction-a.ensures ∙ ap₂ (λ (g : Filter) (v : List Float). answered (step binary64 g (closing (close_prediction v)))) c.at_stage-g.ensures i.images-images.ensures)
+    ∙ sym (ready binary64 (tested d) i.if-refusal-ne0.false)
 
-pub close-prediction-spec : {M : Type 1} → statement M
-close-prediction-spec =
+pub close_prediction_spec : {M : Type 1} → statement M
+close_prediction_spec =
     tie.close
     (tie.spec
     (λ c κs. search rules)
     (λ c κs. search rules)
-    (λ c. unready binary64 (tested c.before.before) c.if1.true)
+    (λ c. unready binary64 (tested c.before.before) c.if-refusal-ne0.true)
     (λ c κs. search rules)
     (λ c κs. search rules)
     (λ c. search rules)

@@ -12,7 +12,7 @@ use Rattle.stepped.proofs.open_correction.Tie as tie
 returns : tie.Need-returns
 returns c =
     let o = c.before.before in
-    c.opened-at.ensures ∙ ap (opened_at CorrectingStepped) o.open-correction.ensures.0 ∙ sym (opens_correction binary64 o.before.before.args.f _ (λ h. numbers_le _ _ h h))
+    c.opened_at.ensures ∙ ap (opened_at CorrectingStepped) o.open_correction-a.ensures.0 ∙ sym (opens_correction binary64 o.args.f _ (λ h. numbers_le _ _ h h))
 
-pub open-correction-spec : {M : Type 1} → statement M
-open-correction-spec = tie.close (tie.spec (λ c. search rules) (λ c κs. search rules) (λ c κs. search rules) returns)
+pub open_correction_spec : {M : Type 1} → statement M
+open_correction_spec = tie.close (tie.spec (λ c. search rules) (λ c κs. search rules) (λ c κs. search rules) returns)

@@ -12,7 +12,7 @@ use Rattle.stepped.proofs.open_prediction.Tie as tie
 returns : tie.Need-returns
 returns c =
     let o = c.before.before in
-    c.opened-at.ensures ∙ ap (opened_at PredictingStepped) o.open-prediction.ensures.0 ∙ sym (opens_prediction binary64 o.before.before.args.f _ (λ h. numbers_le _ _ h h))
+    c.opened_at.ensures ∙ ap (opened_at PredictingStepped) o.open_prediction-a.ensures.0 ∙ sym (opens_prediction binary64 o.args.f _ (λ h. numbers_le _ _ h h))
 
-pub open-prediction-spec : {M : Type 1} → statement M
-open-prediction-spec = tie.close (tie.spec (λ c. search rules) (λ c κs. search rules) (λ c κs. search rules) returns)
+pub open_prediction_spec : {M : Type 1} → statement M
+open_prediction_spec = tie.close (tie.spec (λ c. search rules) (λ c κs. search rules) (λ c κs. search rules) returns)

@@ -18,14 +18,14 @@ use Rattle.stepped.proofs.kept.take_in.Tie as tie
 room : (at d : ℕ) → at ≤ 16 → d ≤ 8 → at * d + d ≤ 136
 room at d h g = let l = product_le at d 16 8 h g in omega arith
 
-abbrev start : tie.After-images2 → tie.Start
+abbrev start : tie.After-images-1 → tie.Start
 start c = c.before.before.before.before.before.before
 
-mul-copy : tie.Need-overflow-mul-copy
-mul-copy c = let s = start c in omega (arith, room _ _ s.pre.1 s.pre.0)
+mul-copy : tie.Need-overflow_mul-at
+mul-copy c = let s = start c in omega (arith, room _ _ s.requires.1 s.requires.0)
 
 copy-requires : tie.Need-copy-requires
-copy-requires c κs = let s = start c in (omega (arith, s.pre.2), omega (arith, room _ _ s.pre.1 s.pre.0))
+copy-requires c κs = let s = start c in (omega (arith, s.requires.2), omega (arith, room _ _ s.requires.1 s.requires.0))
 
 returns : tie.Need-returns
 returns c =
@@ -34,7 +34,7 @@ returns c =
     let s = a.f in
     let k = s.track.kept in
     ap₂ (λ (v : List Float) (x : Verdict). answering x (filter s.sheet (with_kept s.track (keeping (k.at + 1) false a.m v))))
-    (d.copy.ensures ∙ ap (λ (v : List Float). paste v (k.at * a.d) a.image.now a.d) d.before.before.images.ensures) c.placeless.ensures
+    (d.copy.ensures ∙ ap (λ (v : List Float). paste v (k.at * a.d) a.image.now a.d) d.images-images.ensures) c.placeless.ensures
 
-pub take-in-spec : {M : Type 1} → statement M
-take-in-spec = tie.close (tie.spec (λ c κs. search rules) (λ c. search rules) mul-copy copy-requires (λ c. search rules) (λ c κs. search rules) returns)
+pub take_in_spec : {M : Type 1} → statement M
+take_in_spec = tie.close (tie.spec (λ c κs. search rules) (λ c. search rules) mul-copy copy-requires (λ c. search rules) (λ c κs. search rules) returns)

@@ -19,5 +19,5 @@ beyond k n h = go (leb (k - n) n) (leb-true (k - n) n) (leb-false (k - n) n)
     go true a b = let l = a refl in sym (le-leb k (n + n) (omega arith))
     go false a b = let l = b refl in sym (lt-leb k (n + n) (omega arith))
 
-pub has-point-spec : {M : Type 1} → statement M
-has-point-spec = tie.close (tie.spec (λ c. near _ _ c.if1.true) (λ c. search rules) (λ c. beyond _ _ c.if1.false))
+pub has_point_spec : {M : Type 1} → statement M
+has_point_spec = tie.close (tie.spec (λ c. near _ _ c.if-k-n.true) (λ c. search rules) (λ c. beyond _ _ c.if-k-n.false))

@@ -6,7 +6,7 @@ use Rattle.stepped.proofs.tests.is_ready.Statement.{statement}
 use Rattle.stepped.proofs.tests.is_ready.Tie as tie
 
 returns : tie.Need-returns
-returns c = c.both.ensures ∙ ap (λ (x : Bool). x && c.before.before.args.kept.asked) c.before.has-point.ensures
+returns c = c.both.ensures ∙ ap (λ (x : Bool). x && c.args.kept.asked) c.has_point-due.ensures
 
-pub is-ready-spec : {M : Type 1} → statement M
-is-ready-spec = tie.close (tie.spec (λ c κs. search rules) (λ c κs. search rules) returns)
+pub is_ready_spec : {M : Type 1} → statement M
+is_ready_spec = tie.close (tie.spec (λ c κs. search rules) (λ c κs. search rules) returns)

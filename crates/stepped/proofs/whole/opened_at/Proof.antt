@@ -4,8 +4,8 @@ use borrow.Author.Tests.{eq-eqb, ne_eqb}
 use Rattle.stepped.proofs.whole.opened_at.Statement.{statement}
 use Rattle.stepped.proofs.whole.opened_at.Tie as tie
 
-returns-2 : tie.Need-returns-2
-returns-2 c = rw (eq-eqb _ _ c.before.if1.false, c.at_stage.ensures)
+returns-2 : tie.Need-returns
+returns-2 c = rw (eq-eqb _ _ c.if-refusal-ne0.false, c.at_stage-filter.ensures)
 
-pub opened-at-spec : {M : Type 1} → statement M
-opened-at-spec = tie.close (tie.spec (λ c. rw (ne_eqb _ _ c.if1.true)) (λ c κs. search rules) returns-2)
+pub opened_at_spec : {M : Type 1} → statement M
+opened_at_spec = tie.close (tie.spec (λ c. rw (ne_eqb _ _ c.if-refusal-ne0.true)) (λ c κs. search rules) returns-2)

@@ -3,5 +3,5 @@ use borrow.Author.Tests.{eq-eqb, ne_eqb}
 use Rattle.stepped.proofs.whole.unless_refused.Statement.{statement}
 use Rattle.stepped.proofs.whole.unless_refused.Tie as tie
 
-pub unless-refused-spec : {M : Type 1} → statement M
-unless-refused-spec = tie.close (tie.spec (λ c. rw (ne_eqb _ _ c.if1.true)) (λ c. rw (eq-eqb _ _ c.if1.false)))
+pub unless_refused_spec : {M : Type 1} → statement M
+unless_refused_spec = tie.close (tie.spec (λ c. rw (ne_eqb _ _ c.if-refusal-ne0.true)) (λ c. rw (eq-eqb _ _ c.if-refusal-ne0.false)))

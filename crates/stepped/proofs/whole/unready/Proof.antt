@@ -9,8 +9,8 @@ use Rattle.stepped.proofs.whole.unready.Tie as tie
 
 returns : tie.Need-returns
 returns c =
-    let a = c.before.before.before.before.args in
-    c.early-refusal.ensures ∙ ap (λ (x : Bool). refusal (in_order x a.named true true false false nothing true true nothing)) (c.before.both.ensures ∙ ap (λ (x : Bool). a.own_val && not x) c.before.before.has-point.ensures)
+    let a = c.args in
+    c.early_refusal.ensures ∙ ap (λ (x : Bool). refusal (in_order x a.named true true false false nothing true true nothing)) (c.both-fits.ensures ∙ ap (λ (x : Bool). a.own && not x) c.has_point-due.ensures)
 
-pub unready-spec : {M : Type 1} → statement M
-unready-spec = tie.close (tie.spec (λ c κs. search rules) (λ c κs. search rules) (λ c κs. search rules) returns)
+pub unready_spec : {M : Type 1} → statement M
+unready_spec = tie.close (tie.spec (λ c κs. search rules) (λ c κs. search rules) (λ c κs. search rules) returns)
