@@ -6,14 +6,14 @@ use Rattle.filter.proofs.Sizes.{square_le}
 use Rattle.records.proofs.record_length.Statement.{statement}
 use Rattle.records.proofs.record_length.Tie as tie
 
-pub record-length-spec : {M : Type 1} → statement M
-record-length-spec =
+pub record_length_spec : {M : Type 1} → statement M
+record_length_spec =
     tie.close
     (tie.spec
     (λ c. search rules)
     (λ c. search rules)
-    (λ c. omega (arith, square_le _ c.if1.true))
-    (λ c. omega (arith, square_le _ c.if1.true))
-    (λ c. omega (arith, square_le _ c.if1.true))
-    (λ c. rw (le-leb _ _ c.if1.true))
-    (λ c. rw (lt-leb _ _ c.if1.false)))
+    (λ c. omega (arith, square_le _ c.if-n-le8.true))
+    (λ c. omega (arith, square_le _ c.if-n-le8.true))
+    (λ c. omega (arith, square_le _ c.if-n-le8.true))
+    (λ c. rw (le-leb _ _ c.if-n-le8.true))
+    (λ c. rw (lt-leb _ _ c.if-n-le8.false)))

@@ -5,7 +5,7 @@ use mathlib.Core.Bool.{Bool}
 use mathlib.Core.List.{List}
 use borrow.Author.Rules.{rules}
 use lib.ListN.{replicate}
-use lib.Ieee.{binary64}
+use lib.Ieee.{Float, binary64}
 use Rattle.floats.specs.declared.Verdict.{Verdict}
 use Rattle.floats.specs.Refusal.{Outcome, refusal}
 use Rattle.floats.specs.Fronts.{over}
@@ -24,50 +24,53 @@ use Rattle.records.proofs.Loaded.{kinds_at, Parts, parts_judged, parts_filter, j
 use Rattle.records.proofs.read.contents.Statement.{statement}
 use Rattle.records.proofs.read.contents.Tie as tie
 
-abbrev bytes : tie.After-kinds-at → List ℕ
-bytes c = c.before.before.before.before.before.before.before.before.before.args.s.now
+abbrev bytes : tie.After-kinds_at-kinds → List ℕ
+bytes c = c.args.s.now
 
-abbrev params : tie.After-kinds-at → Params
-params c = record { alpha = c.before.before.before.number_at.result; beta = c.before.before.number-at2.result; kappa = c.before.number-at3.result }
+abbrev params : tie.After-kinds_at-kinds → Params
+params c = record { alpha = c.number_at-alpha.result; beta = c.number_at-beta.result; kappa = c.number_at-kappa.result }
+
+same_params : {a b k x y z : Float} → a ≡ x → b ≡ y → k ≡ z → ◌≡◌ {A = Params} (record { alpha = a; beta = b; kappa = k }) (record { alpha = x; beta = y; kappa = z })
+same_params p q r = rw (p, q, r)
 
 -- what has been read is the parts of the filter
-parts : (c : tie.After-kinds-at) → Parts (bytes c) c.before.before.before.before.before.before.vector-at.result c.before.before.before.before.before.matrix-at.result c.before.before.before.before.matrix-at2.result (params c) c.kinds-at.result
+parts : (c : tie.After-kinds_at-kinds) → Parts (bytes c) c.vector_at-x.result c.matrix_at-p.result c.matrix_at-q.result (params c) c.kinds_at-kinds.result
 parts c = record {
-  x_read = c.before.before.before.before.before.before.vector-at.ensures;
-  p_read = c.before.before.before.before.before.matrix-at.ensures;
-  q_read = c.before.before.before.before.matrix-at2.ensures;
-  params_read_lem = rw (c.before.before.before.number_at.ensures, c.before.before.number-at2.ensures, c.before.number-at3.ensures);
-  kinds_read = c.kinds-at.ensures ∙ ap (λ (l : List Kind). over l (replicate 8 plain)) (kinds_at (bytes c) (27 + 8 * states_in (bytes c) + 16 * (states_in (bytes c) * states_in (bytes c))) kind_at refl);
+  x_read = c.vector_at-x.ensures;
+  p_read = c.matrix_at-p.ensures;
+  q_read = c.matrix_at-q.ensures;
+  params_read_lem = same_params c.number_at-alpha.ensures c.number_at-beta.ensures c.number_at-kappa.ensures;
+  kinds_read = c.kinds_at-kinds.ensures ∙ ap (λ (l : List Kind). over l (replicate 8 plain)) (kinds_at (bytes c) (27 + 8 * states_in (bytes c) + 16 * (states_in (bytes c) * states_in (bytes c))) kind_at refl);
 }
 
 -- where they have been read
-abbrev read : tie.After-contents-refusal → tie.After-kinds-at
+abbrev read : tie.After-contents_refusal-refusal → tie.After-kinds_at-kinds
 read c = c.before.before.before.before
 
 abbrev tests : List ℕ → Outcome Bool
 tests b = judged binary64 (load_asks b).inputs (load_asks b).params
 
-judged-is : (c : tie.After-contents-refusal) → c.contents-refusal.result ≡ refusal (tests (bytes (read c)))
-judged-is c = c.contents-refusal.ensures ∙ parts_judged (bytes (read c)) (parts (read c)) binary64
+judged-is : (c : tie.After-contents_refusal-refusal) → c.contents_refusal-refusal.result ≡ refusal (tests (bytes (read c)))
+judged-is c = c.contents_refusal-refusal.ensures ∙ parts_judged (bytes (read c)) (parts (read c)) binary64
 
-returns : tie.Need-returns
+returns : tie.Need-returns-then-refusal-ne0
 unfolding contents_of
 returns c =
     let d = c.before.before.before in
     let b = bytes (read d) in
-    c.refused.ensures ∙ ap refused_answer (judged-is d) ∙ judged_off (tests b) (filter_in b) (λ z. c.before.if1.true (number_of (judged-is d) ∙ z))
+    c.refused.ensures ∙ ap refused_answer (judged-is d) ∙ judged_off (tests b) (filter_in b) (λ z. c.if-refusal-ne0.true (number_of (judged-is d) ∙ z))
 
-returns-2 : tie.Need-returns-2
+returns-2 : tie.Need-returns
 unfolding contents_of
 returns-2 c =
     let d = c.before.before.before in
     let k = read d in
     let b = bytes k in
-    rw c.fresh-track.ensures
-    (ap₂ (λ (s : Filter) (r : Verdict). record { filter = s; refusal = r }) (parts_filter b (parts k)) (judged-is d) ∙ judged_on (tests b) (filter_in b) (sym (number_of (judged-is d)) ∙ c.before.if1.false))
+    rw c.fresh_track-track.ensures
+    (ap₂ (λ (s : Filter) (r : Verdict). record { filter = s; refusal = r }) (parts_filter b (parts k)) (judged-is d) ∙ judged_on (tests b) (filter_in b) (sym (number_of (judged-is d)) ∙ c.if-refusal-ne0.false))
 
-pub contents-spec : {M : Type 1} → statement M
-contents-spec =
+pub contents_spec : {M : Type 1} → statement M
+contents_spec =
     tie.close
     (tie.spec
     (λ c. search rules)

@@ -19,19 +19,19 @@ returns c =
     let e = c.before.before.before.before in
     let q = e.before.before in
     let x = q.before.before.before.before in
-    let a = x.before.before.before.before.args in
-    let in-x : Found _ _ = record { is = x.first-bad.ensures } in
-    let in-q = found_next (found_next in-x Covariance _ q.before.before.before.next-bad.ensures) Noise _ q.before.before.next-bad2.ensures in
-    let in_turns : Found _ _ = record { is = e.before.first-bad-turn.ensures } in
-    let found = found_more (found_next in-q Lone _ q.next-bad3.ensures) in_turns e.earlier.ensures in
-    judged_so binary64 _ _ c.first-refusal.ensures found
-    (c.before.both.ensures ∙ ap₂ (λ (s t : Bool). s && t) c.before.before.before.weights-pass.ensures (c.before.before.turns-pass.ensures ∙ all_pass binary64 (take a.n a.kinds)))
+    let a = x.args in
+    let in-x : Found _ _ = record { is = x.first_bad-in_x.ensures } in
+    let in-q = found_next (found_next in-x Covariance _ q.next_bad-in_p.ensures) Noise _ q.next_bad-in_q.ensures in
+    let in_turns : Found _ _ = record { is = e.first_bad_turn-in_turns.ensures } in
+    let found = found_more (found_next in-q Lone _ q.next_bad-in_params.ensures) in_turns e.earlier-found.ensures in
+    judged_so binary64 _ _ c.first_refusal.ensures found
+    (c.both-passing.ensures ∙ ap₂ (λ (s t : Bool). s && t) c.weights_pass-weighing.ensures (c.turns_pass-turning.ensures ∙ all_pass binary64 (take a.n a.kinds)))
 
-pub contents-refusal-spec : {M : Type 1} → statement M
-contents-refusal-spec =
+pub contents_refusal_spec : {M : Type 1} → statement M
+contents_refusal_spec =
     tie.close
     (tie.spec
-    (λ c. omega (arith, square_le _ c.before.before.before.requires))
+    (λ c. omega (arith, square_le _ c.requires))
     (λ c κs. search rules)
     (λ c κs. search rules)
     (λ c κs. search rules)

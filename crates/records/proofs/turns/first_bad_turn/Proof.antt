@@ -11,33 +11,33 @@ use Rattle.records.proofs.HalfTurns.{is_finite, bad_turn, no_bad_turn}
 use Rattle.records.proofs.turns.first_bad_turn.Statement.{statement}
 use Rattle.records.proofs.turns.first_bad_turn.Tie as tie
 
-abbrev invariant-loop : tie.invariant-loop
-invariant-loop n kinds i₀ i = (i ≤ n) × Passed is_finite kinds i
+abbrev invariant-loop-i : tie.invariant-loop-i
+invariant-loop-i n kinds i₀ i = (i ≤ n) × Passed is_finite kinds i
 
-abbrev decreases-loop : tie.decreases-loop
-decreases-loop n kinds i₀ i = n - i
+abbrev decreases-loop-i : tie.decreases-loop-i
+decreases-loop-i n kinds i₀ i = n - i
 
-returns : tie.Need-returns invariant-loop decreases-loop
+returns : tie.Need-returns-then-not-is_finite invariant-loop-i decreases-loop-i
 returns c =
     let d = c.before.before in
     let l = d.before.before.before.before in
-    bad_turn l.loop.invariant.1 l.before.args.n c.placeless.ensures (omega arith) (omega arith) (sym (d.is-finite.ensures ∙ ap finite d.before.half_of_lem.ensures) ∙ not-true _ c.before.if1.true)
+    bad_turn l.loop-i.invariant.1 l.args.n c.placeless.ensures (omega arith) (omega arith) (sym (d.is_finite.ensures ∙ ap finite d.half_of-h.ensures) ∙ not-true _ c.if-not-is_finite.true-raw)
 
-loop-again : tie.Need-loop-preserved invariant-loop decreases-loop
+loop-again : tie.Need-loop-i-preserved invariant-loop-i decreases-loop-i
 loop-again c =
     let d = c.before in
     let l = d.before.before.before.before in
-    (omega arith, passed_more l.loop.invariant.1 plain (omega arith) (sym (d.is-finite.ensures ∙ ap finite d.before.half_of_lem.ensures) ∙ not-false _ c.if1.false))
+    (omega arith, passed_more l.loop-i.invariant.1 plain (omega arith) (sym (d.is_finite.ensures ∙ ap finite d.half_of-h.ensures) ∙ not-false _ c.if-not-is_finite.false-raw))
 
-returns-2 : tie.Need-returns-2 invariant-loop decreases-loop
-returns-2 c = let l = c.before.before in no_bad_turn l.loop.invariant.1 l.before.args.n c.placeless2.ensures (omega arith)
+returns-2 : tie.Need-returns invariant-loop-i decreases-loop-i
+returns-2 c = let l = c.before.before in no_bad_turn l.loop-i.invariant.1 l.args.n c.placeless-2.ensures (omega arith)
 
-pub first-bad-turn-spec : {M : Type 1} → statement M
-first-bad-turn-spec =
+pub first_bad_turn_spec : {M : Type 1} → statement M
+first_bad_turn_spec =
     tie.close
     (tie.spec
-    invariant-loop
-    decreases-loop
+    invariant-loop-i
+    decreases-loop-i
     (λ c. (omega arith, passed_none))
     (λ c. omega arith)
     (λ c. omega arith)

@@ -11,31 +11,31 @@ use Rattle.filter.proofs.KindTests.{Passed, passed_none, passed_more, passed_bad
 use Rattle.records.proofs.turns.turns_pass.Statement.{statement}
 use Rattle.records.proofs.turns.turns_pass.Tie as tie
 
-abbrev invariant-loop : tie.invariant-loop
-invariant-loop n kinds i₀ i = (i ≤ n) × Passed (passing binary64) kinds i
+abbrev invariant-loop-i : tie.invariant-loop-i
+invariant-loop-i n kinds i₀ i = (i ≤ n) × Passed (passing binary64) kinds i
 
-abbrev decreases-loop : tie.decreases-loop
-decreases-loop n kinds i₀ i = n - i
+abbrev decreases-loop-i : tie.decreases-loop-i
+decreases-loop-i n kinds i₀ i = n - i
 
-returns : tie.Need-returns invariant-loop decreases-loop
+returns : tie.Need-returns-then-not-kind_passes invariant-loop-i decreases-loop-i
 returns c =
     let l = c.before.before.before.before in
-    passed_bad l.loop.invariant.1 l.before.args.n plain (omega arith) (omega arith) (sym c.before.kind-passes.ensures ∙ not-true _ c.if1.true)
+    passed_bad l.loop-i.invariant.1 l.args.n plain (omega arith) (omega arith) (sym c.kind_passes.ensures ∙ not-true _ c.if-not-kind_passes.true-raw)
 
-loop-again : tie.Need-loop-preserved invariant-loop decreases-loop
+loop-again : tie.Need-loop-i-preserved invariant-loop-i decreases-loop-i
 loop-again c =
     let l = c.before.before.before.before in
-    (omega arith, passed_more l.loop.invariant.1 plain (omega arith) (sym c.before.kind-passes.ensures ∙ not-false _ c.if1.false))
+    (omega arith, passed_more l.loop-i.invariant.1 plain (omega arith) (sym c.kind_passes.ensures ∙ not-false _ c.if-not-kind_passes.false-raw))
 
-returns-2 : tie.Need-returns-2 invariant-loop decreases-loop
-returns-2 c = passed_end c.before.loop.invariant.1 c.before.before.args.n (omega arith)
+returns-2 : tie.Need-returns invariant-loop-i decreases-loop-i
+returns-2 c = passed_end c.loop-i.invariant.1 c.args.n (omega arith)
 
-pub turns-pass-spec : {M : Type 1} → statement M
-turns-pass-spec =
+pub turns_pass_spec : {M : Type 1} → statement M
+turns_pass_spec =
     tie.close
     (tie.spec
-    invariant-loop
-    decreases-loop
+    invariant-loop-i
+    decreases-loop-i
     (λ c. (omega arith, passed_none))
     (λ c. omega arith)
     (λ c. omega arith)
