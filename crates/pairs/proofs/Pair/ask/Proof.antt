@@ -9,8 +9,8 @@ use Rattle.pairs.proofs.Pair.ask.Tie as tie
 returns : tie.Need-returns
 returns c =
     let o = c.before.before.before in
-    let s = o.before.before.solo.ensures in
-    (own_call binary64 _ _ _ refl s o.ask.ensures.0 c.put.ensures, own_given binary64 _ _ _ _ refl s o.ask.ensures.1)
+    let s = o.solo-f.ensures in
+    (own_call binary64 _ _ _ refl s o.ask-a.ensures.0 c.put.ensures, own_given binary64 _ _ _ _ refl s o.ask-a.ensures.1)
 
-pub ask-spec : {M : Type 1} → statement M
-ask-spec = tie.close (tie.spec (λ c κs. search rules) (λ c κs. search rules) (λ c κs. search rules) (λ c. search rules) returns)
+pub ask_spec : {M : Type 1} → statement M
+ask_spec = tie.close (tie.spec (λ c κs. search rules) (λ c κs. search rules) (λ c κs. search rules) (λ c. search rules) returns)

@@ -6,8 +6,8 @@ use Rattle.pairs.proofs.Calls.{own_call}
 use Rattle.pairs.proofs.Pair.close_correction_flat_stepped.Statement.{statement}
 use Rattle.pairs.proofs.Pair.close_correction_flat_stepped.Tie as tie
 
-pub close-correction-flat-stepped-spec : {M : Type 1} → statement M
-close-correction-flat-stepped-spec =
+pub close_correction_flat_stepped_spec : {M : Type 1} → statement M
+close_correction_flat_stepped_spec =
     tie.close
     (tie.spec (λ c κs. search rules) (λ c κs. search rules) (λ c κs. search rules)
-    (λ c. own_call binary64 _ _ _ refl c.before.before.solo.ensures c.before.close-correction-flat.ensures c.put.ensures))
+    (λ c. own_call binary64 _ _ _ refl c.solo-f.ensures c.close_correction_flat-a.ensures c.put.ensures))

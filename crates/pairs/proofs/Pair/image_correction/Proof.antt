@@ -6,8 +6,8 @@ use Rattle.pairs.proofs.Calls.{own_call}
 use Rattle.pairs.proofs.Pair.image_correction.Statement.{statement}
 use Rattle.pairs.proofs.Pair.image_correction.Tie as tie
 
-pub image-correction-spec : {M : Type 1} → statement M
-image-correction-spec =
+pub image_correction_spec : {M : Type 1} → statement M
+image_correction_spec =
     tie.close
     (tie.spec (λ c κs. search rules) (λ c κs. search rules) (λ c κs. search rules)
-    (λ c. own_call binary64 _ _ _ refl c.before.before.solo.ensures c.before.image-correction.ensures c.put.ensures))
+    (λ c. own_call binary64 _ _ _ refl c.solo-f.ensures c.image_correction-a.ensures c.put.ensures))

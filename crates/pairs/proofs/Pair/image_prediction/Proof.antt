@@ -6,8 +6,8 @@ use Rattle.pairs.proofs.Calls.{own_call}
 use Rattle.pairs.proofs.Pair.image_prediction.Statement.{statement}
 use Rattle.pairs.proofs.Pair.image_prediction.Tie as tie
 
-pub image-prediction-spec : {M : Type 1} → statement M
-image-prediction-spec =
+pub image_prediction_spec : {M : Type 1} → statement M
+image_prediction_spec =
     tie.close
     (tie.spec (λ c κs. search rules) (λ c κs. search rules) (λ c κs. search rules)
-    (λ c. own_call binary64 _ _ _ refl c.before.before.solo.ensures c.before.image-prediction.ensures c.put.ensures))
+    (λ c. own_call binary64 _ _ _ refl c.solo-f.ensures c.image_prediction-a.ensures c.put.ensures))

@@ -34,42 +34,42 @@ abbrev ofSheet : NewSheet → Verdict
 ofSheet t = t.refusal
 
 -- where the three parts are made
-abbrev parts : tie.After-sooner2 → tie.After-new3
+abbrev parts : tie.After-sooner-refusal → tie.After-new-c
 parts c = c.before.before.before.before.before
 
-abbrev start : tie.After-sooner2 → tie.Start
+abbrev start : tie.After-sooner-refusal → tie.Start
 start c = (parts c).before.before.before.before.before.before.before.before
 
-abbrev asked : (c : tie.After-sooner2) → let a = (start c).args in Gives binary64 (new_pair_asks a.n a.x1.now a.p1.now a.x2.now a.p2.now a.q.now a.params)
+abbrev asked : (c : tie.After-sooner-refusal) → let a = (start c).args in Gives binary64 (new_pair_asks a.n a.x1.now a.p1.now a.x2.now a.p2.now a.q.now a.params)
 asked c =
     record {
       told = _;
-      is = c.sooner2.ensures ∙ start_told binary64 _ _ (_ ∷ []) _ _ (ap ofTrack (parts c).before.before.new.ensures)
-          (c.before.sooner.ensures ∙ start_told binary64 _ _ [] _ _ (ap ofTrack (parts c).before.new2.ensures) (ap ofSheet (parts c).new3.ensures ∙ sheet_told binary64 _ _ _));
+      is = c.sooner-refusal.ensures ∙ start_told binary64 _ _ (_ ∷ []) _ _ (ap ofTrack (parts c).new-a.ensures)
+          (c.sooner-later.ensures ∙ start_told binary64 _ _ [] _ _ (ap ofTrack (parts c).new-b.ensures) (ap ofSheet (parts c).new-c.ensures ∙ sheet_told binary64 _ _ _));
     }
 
-returns : tie.Need-returns
+returns : tie.Need-returns-then-refusal-ne0
 unfolding new_pair_of
 returns c =
     let d = c.before.before.before.before in
-    let q = new_stopped binary64 _ (made (start d)) empty_pair (asked d).is c.before.before.if1.true in
-    ap₂ answer (ap₂ (λ (s : Sheet) (t : Track). pair s t t) c.before.empty-sheet.ensures c.empty-track.ensures ∙ q.0) q.1
+    let q = new_stopped binary64 _ (made (start d)) empty_pair (asked d).is c.if-refusal-ne0.true in
+    ap₂ answer (ap₂ (λ (s : Sheet) (t : Track). pair s t t) c.empty_sheet-sheet.ensures c.empty_track-track.ensures ∙ q.0) q.1
 
-returns-2 : tie.Need-returns-2
+returns-2 : tie.Need-returns
 unfolding new_pair_of
 returns-2 c =
     let d = c.before.before.before.before.before in
-    let z = c.before.before.before.if1.false in
-    let y = none_sooner _ _ (sym (number_of d.sooner2.ensures) ∙ z) in
-    let x = none_sooner _ _ (sym (number_of d.before.sooner.ensures) ∙ y.1) in
-    let s = (parts d).new3.ensures in
-    let t = (parts d).before.new2.ensures in
-    let u = (parts d).before.before.new.ensures in
+    let z = c.if-refusal-ne0.false in
+    let y = none_sooner _ _ (sym (number_of d.sooner-refusal.ensures) ∙ z) in
+    let x = none_sooner _ _ (sym (number_of d.sooner-later.ensures) ∙ y.1) in
+    let s = (parts d).new-c.ensures in
+    let t = (parts d).new-b.ensures in
+    let u = (parts d).new-a.ensures in
     let q = new_made binary64 _ (made (start d)) empty_pair (asked d).is z in
     let sheet-is = ap (λ (v : NewSheet). v.sheet) s ∙ made_sheet binary64 _ _ _ (sym (number_of (ap ofSheet s)) ∙ x.1) in
     let first-is = ap (λ (v : NewTrack). v.track) u ∙ made_track binary64 _ _ (sym (number_of (ap ofTrack u)) ∙ y.0) in
     let second_is = ap (λ (v : NewTrack). v.track) t ∙ made_track binary64 _ _ (sym (number_of (ap ofTrack t)) ∙ x.0) in
-    ap₂ answer (ap₂ (λ (k : Sheet) (m : Track). pair k m (parts d).before.new2.result.track) sheet-is first-is ∙ ap (pair _ _) second_is ∙ q.0) q.1
+    ap₂ answer (ap₂ (λ (k : Sheet) (m : Track). pair k m (parts d).new-b.result.track) sheet-is first-is ∙ ap (pair _ _) second_is ∙ q.0) q.1
 
 pub new_spec : {M : Type 1} → statement M
 new_spec =

@@ -6,8 +6,8 @@ use Rattle.pairs.proofs.Calls.{own_call}
 use Rattle.pairs.proofs.Pair.open_correction_stepped.Statement.{statement}
 use Rattle.pairs.proofs.Pair.open_correction_stepped.Tie as tie
 
-pub open-correction-stepped-spec : {M : Type 1} → statement M
-open-correction-stepped-spec =
+pub open_correction_stepped_spec : {M : Type 1} → statement M
+open_correction_stepped_spec =
     tie.close
     (tie.spec (λ c κs. search rules) (λ c κs. search rules) (λ c κs. search rules)
-    (λ c. own_call binary64 _ _ _ refl c.before.before.solo.ensures c.before.open-correction.ensures c.put.ensures))
+    (λ c. own_call binary64 _ _ _ refl c.solo-f.ensures c.open_correction-a.ensures c.put.ensures))

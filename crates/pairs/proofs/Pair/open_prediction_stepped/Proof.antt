@@ -6,8 +6,8 @@ use Rattle.pairs.proofs.Calls.{own_call}
 use Rattle.pairs.proofs.Pair.open_prediction_stepped.Statement.{statement}
 use Rattle.pairs.proofs.Pair.open_prediction_stepped.Tie as tie
 
-pub open-prediction-stepped-spec : {M : Type 1} → statement M
-open-prediction-stepped-spec =
+pub open_prediction_stepped_spec : {M : Type 1} → statement M
+open_prediction_stepped_spec =
     tie.close
     (tie.spec (λ c κs. search rules) (λ c κs. search rules) (λ c κs. search rules)
-    (λ c. own_call binary64 _ _ _ refl c.before.before.solo.ensures c.before.open-prediction.ensures c.put.ensures))
+    (λ c. own_call binary64 _ _ _ refl c.solo-f.ensures c.open_prediction-a.ensures c.put.ensures))

@@ -9,7 +9,7 @@ returns : tie.Need-returns
 returns c =
     let b = c.before in
     let a = b.before in
-    sheet_call binary64 _ _ a.before.before.solo.ensures a.before.solo2.ensures a.set-kind.ensures b.set-kind2.ensures c.rewritten.ensures
+    sheet_call binary64 _ _ a.solo-f.ensures a.solo-g.ensures a.set_kind-a.ensures b.set_kind-b.ensures c.rewritten.ensures
 
-pub set-kind-spec : {M : Type 1} → statement M
-set-kind-spec = tie.close (tie.spec (λ c κs. search rules) (λ c κs. search rules) (λ c κs. search rules) (λ c κs. search rules) (λ c κs. search rules) returns)
+pub set_kind_spec : {M : Type 1} → statement M
+set_kind_spec = tie.close (tie.spec (λ c κs. search rules) (λ c κs. search rules) (λ c κs. search rules) (λ c κs. search rules) (λ c κs. search rules) returns)

@@ -9,7 +9,7 @@ returns : tie.Need-returns
 returns c =
     let b = c.before in
     let a = b.before in
-    sheet_call binary64 _ _ a.before.before.solo.ensures a.before.solo2.ensures a.set-params.ensures b.set-params2.ensures c.rewritten.ensures
+    sheet_call binary64 _ _ a.solo-f.ensures a.solo-g.ensures a.set_params-a.ensures b.set_params-b.ensures c.rewritten.ensures
 
-pub set-params-spec : {M : Type 1} → statement M
-set-params-spec = tie.close (tie.spec (λ c κs. search rules) (λ c κs. search rules) (λ c κs. search rules) (λ c κs. search rules) (λ c κs. search rules) returns)
+pub set_params_spec : {M : Type 1} → statement M
+set_params_spec = tie.close (tie.spec (λ c κs. search rules) (λ c κs. search rules) (λ c κs. search rules) (λ c κs. search rules) (λ c κs. search rules) returns)

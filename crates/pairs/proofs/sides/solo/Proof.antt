@@ -3,11 +3,11 @@ use borrow.Author.Rules.{rules}
 use Rattle.pairs.proofs.sides.solo.Statement.{statement}
 use Rattle.pairs.proofs.sides.solo.Tie as tie
 
-returns : tie.Need-returns
-returns c = rw c.enum_told.given.1
+returns : tie.Need-returns-in-First
+returns c = rw c.in-First.is
 
-returns-2 : tie.Need-returns-2
-returns-2 c = rw c.enum-told2.given.1
+returns-2 : tie.Need-returns-in-Second
+returns-2 c = rw c.in-Second.is
 
-pub solo-spec : {M : Type 1} → statement M
-solo-spec = tie.close (tie.spec (λ c. search rules) (λ c. search rules) returns returns-2)
+pub solo_spec : {M : Type 1} → statement M
+solo_spec = tie.close (tie.spec (λ c. search rules) (λ c. search rules) returns returns-2)
