@@ -1,0 +1,9 @@
+-- The bytes that are read lie in the lent ones; each turn of the loop adds some.
+use Rattle.std.proofs.Common.{length, ◌-◌, ◌≤◌}
+use Rattle.vectors.proofs.read_full.Given as goal
+
+abbrev pub invariant-loop-done : goal.invariant-loop-done
+invariant-loop-done g l = l.done ≤ length l.bytes
+
+abbrev pub decreases-loop-done : goal.decreases-loop-done
+decreases-loop-done g l = length l.initial.bytes - l.done
