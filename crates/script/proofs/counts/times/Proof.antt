@@ -5,17 +5,17 @@ use native.Mathlib.Omega.{arith}
 use Rattle.script.proofs.counts.times.Statement.{statement}
 use Rattle.script.proofs.counts.times.Tie as tie
 
-mul-result : tie.Need-overflow-mul-result
-mul-result c = omega (arith, mul-le-mul_right c.before.before.args.b c.before.if1.true)
+mul-result : tie.Need-overflow_mul-result
+mul-result c = omega (arith, mul-le-mul_right c.args.b c.if-a-le32.true)
 
-returns : tie.Need-returns
-returns c = rw (le-leb _ _ c.before.if1.true, le-leb _ _ c.if2.true)
+returns : tie.Need-returns-then-b-le32
+returns c = rw (le-leb _ _ c.if-a-le32.true, le-leb _ _ c.if-b-le32.true)
 
-returns-2 : tie.Need-returns-2
-returns-2 c = rw (le-leb _ _ c.before.if1.true, lt-leb _ _ c.if2.false)
+returns-2 : tie.Need-returns-else-b-le32
+returns-2 c = rw (le-leb _ _ c.if-a-le32.true, lt-leb _ _ c.if-b-le32.false)
 
-returns-3 : tie.Need-returns-3
-returns-3 c = rw (lt-leb _ _ c.if1.false)
+returns-3 : tie.Need-returns-else-a-le32
+returns-3 c = rw (lt-leb _ _ c.if-a-le32.false)
 
-pub times-spec : {M : Type 1} → statement M
-times-spec = tie.close (tie.spec mul-result returns returns-2 returns-3)
+pub times_spec : {M : Type 1} → statement M
+times_spec = tie.close (tie.spec mul-result returns returns-2 returns-3)

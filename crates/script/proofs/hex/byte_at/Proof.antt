@@ -4,17 +4,17 @@ use Rattle.script.proofs.Digits.{no_high, no_low, both_digits}
 use Rattle.script.proofs.hex.byte_at.Statement.{statement}
 use Rattle.script.proofs.hex.byte_at.Tie as tie
 
-returns : tie.Need-returns
-returns c = no_high _ _ c.before.before.before.digit.ensures c.before.digit2.ensures c.if1.true
+returns : tie.Need-returns-then-high-ge16
+returns c = no_high _ _ c.digit-high.ensures c.digit-low.ensures c.if-high-ge16.true
 
-returns-2 : tie.Need-returns-2
-returns-2 c = no_low _ _ c.before.before.before.before.digit.ensures c.before.before.digit2.ensures c.before.if1.false c.if2.true
+returns-2 : tie.Need-returns-then-low-ge16
+returns-2 c = no_low _ _ c.digit-high.ensures c.digit-low.ensures c.if-high-ge16.false c.if-low-ge16.true
 
-returns-3 : tie.Need-returns-3
-returns-3 c = both_digits _ _ c.before.before.before.before.digit.ensures c.before.before.digit2.ensures c.before.if1.false c.if2.false
+returns-3 : tie.Need-returns
+returns-3 c = both_digits _ _ c.digit-high.ensures c.digit-low.ensures c.if-high-ge16.false c.if-low-ge16.false
 
-pub byte-at-spec : {M : Type 1} → statement M
-byte-at-spec =
+pub byte_at_spec : {M : Type 1} → statement M
+byte_at_spec =
     tie.close
     (tie.spec
     (λ c. search rules)

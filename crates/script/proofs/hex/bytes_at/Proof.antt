@@ -11,65 +11,64 @@ use Rattle.script.proofs.Digits.{dash, no_pair, Got, got_none, got_more, got_not
 use Rattle.script.proofs.hex.bytes_at.Statement.{statement}
 use Rattle.script.proofs.hex.bytes_at.Tie as tie
 
-abbrev invariant-loop : tie.invariant-loop
-invariant-loop s at out₀ len i₀ place₀ out i place = Got s at out₀ len i place out
+abbrev invariant-loop-i : tie.invariant-loop-i
+invariant-loop-i s at out₀ len i₀ place₀ out i place = Got s at out₀ len i place out
 
-abbrev decreases-loop : tie.decreases-loop
-decreases-loop s at out₀ len i₀ place₀ out i place = len - i
+abbrev decreases-loop-i : tie.decreases-loop-i
+decreases-loop-i s at out₀ len i₀ place₀ out i place = len - i
 
-returns : tie.Need-returns invariant-loop decreases-loop
+returns : tie.Need-returns-then-same_bytes invariant-loop-i decreases-loop-i
 returns c =
-    let a = c.before.before.before.before.before.before.args in
-    let t = c.before.before.before.before.token-at in
+    let a = c.args in
+    let t = c.token_at-t in
     dash a.s.now a.at a.out.now t.ensures
-    (tested a.s.now t.result (45 ∷ []) c.before.before.before.part.ensures c.before.same_bytes.ensures c.if1.true)
+    (tested a.s.now t.result (45 ∷ []) c.part.ensures c.same_bytes.ensures c.if-same_bytes.true)
 
 -- the token is another, and how many bytes it is
-other : (c : tie.Else1 invariant-loop decreases-loop) → let s = c.before.before.before.before.before.before.args.s.now in same_bytes (part_of s c.before.before.before.before.token-at.result) (45 ∷ []) ≡ false
+other : (c : tie.Else-same_bytes invariant-loop-i decreases-loop-i) → let s = c.args.s.now in same_bytes (part_of s c.token_at-t.result) (45 ∷ []) ≡ false
 other c =
-    tested c.before.before.before.before.before.before.args.s.now c.before.before.before.before.token-at.result (45 ∷ []) c.before.before.before.part.ensures
-    c.before.same_bytes.ensures
-    c.if1.false
+    tested c.args.s.now c.token_at-t.result (45 ∷ []) c.part.ensures
+    c.same_bytes.ensures
+    c.if-same_bytes.false
 
-counted : (c : tie.After-pairs invariant-loop decreases-loop) → let t = c.before.before.before.before.before.before.token-at.result in c.pairs.result ≡ pairs_in (t.end - t.start)
-counted c = c.pairs.ensures ∙ ap pairs_in c.before.less.ensures
+counted : (c : tie.After-pairs-len invariant-loop-i decreases-loop-i) → let t = c.token_at-t.result in c.pairs-len.result ≡ pairs_in (t.end - t.start)
+counted c = c.pairs-len.ensures ∙ ap pairs_in c.less.ensures
 
-returns-2 : tie.Need-returns-2 invariant-loop decreases-loop
+returns-2 : tie.Need-returns-then-len-eq0 invariant-loop-i decreases-loop-i
 returns-2 c =
     let b = c.before.before.before in
-    let a = b.before.before.before.before.before.before.args in
-    no_pair a.s.now a.at a.out.now b.before.before.before.before.token-at.ensures (other b) (counted c.before) c.if2.true
+    let a = b.args in
+    no_pair a.s.now a.at a.out.now b.token_at-t.ensures (other b) (counted c.before) c.if-len-eq0.true
 
-loop-holds : tie.Need-loop-init invariant-loop decreases-loop
+loop-holds : tie.Need-loop-i-init invariant-loop-i decreases-loop-i
 loop-holds c =
     let b = c.before.before.before in
-    let a = b.before.before.before.before.before.before.args in
-    got_none a.s.now a.at a.out.now b.before.before.before.before.token-at.ensures (other b) (counted c.before) c.if2.false
+    let a = b.args in
+    got_none a.s.now a.at a.out.now b.token_at-t.ensures (other b) (counted c.before) c.if-len-eq0.false
 
-byte-at-requires : tie.Need-byte-at-requires invariant-loop decreases-loop
-byte-at-requires c κs = omega (arith, c.before.loop.invariant.inside)
+byte-at-requires : tie.Need-byte_at-b-requires invariant-loop-i decreases-loop-i
+byte-at-requires c κs = omega (arith, c.loop-i.invariant.inside)
 
-returns-3 : tie.Need-returns-3 invariant-loop decreases-loop
-returns-3 c = got_not c.before.before.before.loop.invariant c.before.before.loop-test.true c.before.byte_at.ensures c.if3.true
+returns-3 : tie.Need-returns-then-b-ge256 invariant-loop-i decreases-loop-i
+returns-3 c = got_not c.loop-i.invariant c.loop-i-test.true c.byte_at-b.ensures c.if-b-ge256.true
 
-element-write-out : tie.Need-element-write-out invariant-loop decreases-loop
-element-write-out c = omega (arith, c.before.before.before.loop.invariant.few)
+element-write-out : tie.Need-bounds-out-i invariant-loop-i decreases-loop-i
+element-write-out c = omega (arith, c.loop-i.invariant.few)
 
-add-place : tie.Need-overflow-add-place invariant-loop decreases-loop
-add-place c = omega (arith, c.before.before.before.loop.invariant.inside)
+add-place : tie.Need-overflow_add-place invariant-loop-i decreases-loop-i
+add-place c = omega (arith, c.loop-i.invariant.inside)
 
-loop-again : tie.Need-loop-preserved invariant-loop decreases-loop
-loop-again c = got_more c.before.before.before.loop.invariant c.before.before.loop-test.true c.before.byte_at.ensures c.if3.false
+loop-again : tie.Need-loop-i-preserved invariant-loop-i decreases-loop-i
+loop-again c = got_more c.loop-i.invariant c.loop-i-test.true c.byte_at-b.ensures c.if-b-ge256.false
 
-pub bytes-at-spec : {M : Type 1} → statement M
-bytes-at-spec =
+pub bytes_at_spec : {M : Type 1} → statement M
+bytes_at_spec =
     tie.close
     (tie.spec
-    invariant-loop
-    decreases-loop
+    invariant-loop-i
+    decreases-loop-i
     (λ c κs. tt)
     (λ c κs. tt)
-    (λ c. omega arith)
     (λ c κs. tt)
     returns
     (λ c κs. tt)
@@ -84,4 +83,4 @@ bytes-at-spec =
     (λ c. omega arith)
     (λ c. omega arith)
     loop-again
-    (λ c. got_end c.before.loop.invariant c.loop-test.false))
+    (λ c. got_end c.loop-i.invariant c.loop-i-test.false))

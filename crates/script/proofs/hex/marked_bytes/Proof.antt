@@ -7,26 +7,26 @@ use Rattle.script.proofs.Marks.{Marked, marked_none, marked_more}
 use Rattle.script.proofs.hex.marked_bytes.Statement.{statement}
 use Rattle.script.proofs.hex.marked_bytes.Tie as tie
 
-abbrev invariant-loop : tie.invariant-loop
-invariant-loop buffer₀ i₀ buffer i = Marked 0 byte_mark 4096 buffer i
+abbrev invariant-loop-i : tie.invariant-loop-i
+invariant-loop-i buffer₀ i₀ buffer i = Marked 0 byte_mark 4096 buffer i
 
-abbrev decreases-loop : tie.decreases-loop
-decreases-loop buffer₀ i₀ buffer i = 4096 - i
+abbrev decreases-loop-i : tie.decreases-loop-i
+decreases-loop-i buffer₀ i₀ buffer i = 4096 - i
 
-returns : tie.Need-returns invariant-loop decreases-loop
-returns c = let r = c.before.loop.invariant in (r.size, λ i h. r.holds i (omega arith))
+returns : tie.Need-returns invariant-loop-i decreases-loop-i
+returns c = let r = c.loop-i.invariant in (r.size, λ i h. r.holds i (omega arith))
 
-pub marked-bytes-spec : {M : Type 1} → statement M
-marked-bytes-spec =
+pub marked_bytes_spec : {M : Type 1} → statement M
+marked_bytes_spec =
     tie.close
     (tie.spec
-    invariant-loop
-    decreases-loop
+    invariant-loop-i
+    decreases-loop-i
     (λ c. marked_none refl)
     (λ c. omega arith)
     (λ c. omega arith)
     (λ c. omega arith)
     (λ c. omega arith)
     (λ c. omega arith)
-    (λ c. marked_more c.before.loop.invariant c.loop-test.true refl)
+    (λ c. marked_more c.loop-i.invariant c.loop-i-test.true refl)
     returns)

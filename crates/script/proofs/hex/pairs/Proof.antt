@@ -3,10 +3,10 @@ use Rattle.script.proofs.Digits.{too_many, half_left, all_pairs}
 use Rattle.script.proofs.hex.pairs.Statement.{statement}
 use Rattle.script.proofs.hex.pairs.Tie as tie
 
-pub pairs-spec : {M : Type 1} → statement M
-pairs-spec =
+pub pairs_spec : {M : Type 1} → statement M
+pairs_spec =
     tie.close
     (tie.spec
-    (λ c. too_many _ c.if1.true)
-    (λ c. half_left _ c.before.if1.false c.if2.true)
-    (λ c. all_pairs _ c.before.if1.false c.if2.false))
+    (λ c. too_many _ c.if-digits-gt8192.true)
+    (λ c. half_left _ c.if-digits-gt8192.false c.if-digits-eq1.true)
+    (λ c. all_pairs _ c.if-digits-gt8192.false c.if-digits-eq1.false))

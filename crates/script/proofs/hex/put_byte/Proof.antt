@@ -11,14 +11,14 @@ use Rattle.script.proofs.hex.put_byte.Tie as tie
 
 returns : tie.Need-returns
 returns c =
-    let p = c.before.before.put in
-    let h = c.before.before.before.before.before.hex in
-    let a = c.before.before.before.before.before.before.before.before.args in
-    let t = two a.b h.result h.ensures.1.0 (omega arith) h.ensures.1.1 in
+    let p = c.put in
+    let h = c.hex-k in
+    let a = c.args in
+    let t = two a.b h.result h.ensures.1.0 (omega arith) h.ensures.1.1.0 in
     (p.ensures.0 ∙ ap (λ (s : List ℕ). (put_of s (page a.out.now a.at)).used) t, p.ensures.1 ∙ ap (λ (s : List ℕ). (put_of s (page a.out.now a.at)).bytes) t)
 
-pub put-byte-spec : {M : Type 1} → statement M
-put-byte-spec =
+pub put_byte_spec : {M : Type 1} → statement M
+put_byte_spec =
     tie.close
     (tie.spec
     (λ c κs. search rules)

@@ -5,28 +5,26 @@ use Rattle.script.proofs.Digits.{no_bytes, some_bytes}
 use Rattle.script.proofs.hex.put_bytes.Statement.{statement}
 use Rattle.script.proofs.hex.put_bytes.Tie as tie
 
-returns : tie.Need-returns
+returns : tie.Need-returns-then-s-eq0
 returns c =
     let t = c.before.before.before.before.before in
-    let a = t.before.before.before.args in
-    no_bytes a.s.now (page a.out.now a.at) t.if1.true c.before.before.put.ensures
+    let a = t.args in
+    no_bytes a.s.now (page a.out.now a.at) t.if-s-eq0.true c.put.ensures
 
-returns-2 : tie.Need-returns-2
+returns-2 : tie.Need-returns
 returns-2 c =
     let p = c.before.before.before.before.before.before in
     let t = p.before.before.before in
-    let a = t.before.before.before.args in
-    some_bytes a.s.now (page a.out.now a.at) t.if1.false p.put2.ensures c.before.before.put-each.ensures
+    let a = t.args in
+    some_bytes a.s.now (page a.out.now a.at) t.if-s-eq0.false p.put-next.ensures c.put_each.ensures
 
-pub put-bytes-spec : {M : Type 1} → statement M
-put-bytes-spec =
+pub put_bytes_spec : {M : Type 1} → statement M
+put_bytes_spec =
     tie.close
     (tie.spec
-    (λ c. search rules)
     (λ c κs. search rules)
     (λ c. search rules)
     returns
-    (λ c. search rules)
     (λ c κs. search rules)
     (λ c κs. search rules)
     (λ c. search rules)

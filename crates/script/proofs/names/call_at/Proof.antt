@@ -16,9 +16,9 @@ call n next = record { name = n; next = next }
 returns : tie.Need-returns
 unfolding call
 returns c =
-    let t = c.before.before.token-at in
-    ap (λ (n : Name). call n t.result.end) (c.name_of.ensures ∙ ap (λ (l : List ℕ). named settings l) c.before.part.ensures)
-    ∙ ap (λ (u : Token). call_in c.before.before.before.before.args.s.now u) t.ensures
+    let t = c.token_at-t in
+    ap (λ (n : Name). call n t.result.end) (c.name_of-name.ensures ∙ ap (λ (l : List ℕ). named settings l) c.part.ensures)
+    ∙ ap (λ (u : Token). call_in c.args.s.now u) t.ensures
 
-pub call-at-spec : {M : Type 1} → statement M
-call-at-spec = tie.close (tie.spec (λ c κs. search rules) (λ c κs. search rules) (λ c κs. search rules) returns)
+pub call_at_spec : {M : Type 1} → statement M
+call_at_spec = tie.close (tie.spec (λ c κs. search rules) (λ c κs. search rules) (λ c κs. search rules) returns)

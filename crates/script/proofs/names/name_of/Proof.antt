@@ -6,45 +6,39 @@ use Rattle.script.proofs.Tried.{Tried, begin, hit, missed, last}
 use Rattle.script.proofs.names.name_of.Statement.{statement}
 use Rattle.script.proofs.names.name_of.Tie as tie
 
-past1 : (c : tie.Else1) → Tried settings (drop 1 settings) c.before.before.before.before.args.token.now
-past1 c = missed begin c.before.same_bytes.ensures c.if1.false
+past1 : (c : tie.Else-same_bytes) → Tried settings (drop 1 settings) c.args.token.now
+past1 c = missed begin c.same_bytes.ensures c.if-same_bytes.false
 
-past2 : (c : tie.Else2) → Tried settings (drop 2 settings) c.before.before.before.before.before.before.before.args.token.now
-past2 c = missed (past1 c.before.before.before) c.before.same-bytes2.ensures c.if2.false
+past2 : (c : tie.Else-same_bytes-2) → Tried settings (drop 2 settings) c.args.token.now
+past2 c = missed (past1 c.before.before.before.before) c.same_bytes-2.ensures c.if-same_bytes-2.false
 
-past3 : (c : tie.Else3) → Tried settings (drop 3 settings) c.before.before.before.before.before.before.before.before.before.before.args.token.now
-past3 c = missed (past2 c.before.before.before) c.before.same-bytes3.ensures c.if3.false
+past3 : (c : tie.Else-same_bytes-3) → Tried settings (drop 3 settings) c.args.token.now
+past3 c = missed (past2 c.before.before.before.before) c.same_bytes-3.ensures c.if-same_bytes-3.false
 
-past4 : (c : tie.Else4) → Tried settings (drop 4 settings) c.before.before.before.before.before.before.before.before.before.before.before.before.before.args.token.now
-past4 c = missed (past3 c.before.before.before) c.before.same-bytes4.ensures c.if4.false
+past4 : (c : tie.Else-same_bytes-4) → Tried settings (drop 4 settings) c.args.token.now
+past4 c = missed (past3 c.before.before.before.before) c.same_bytes-4.ensures c.if-same_bytes-4.false
 
-past5 : (c : tie.Else5) → Tried settings (drop 5 settings) c.before.before.before.before.before.before.before.before.before.before.before.before.before.before.before.before.args.token.now
-past5 c = missed (past4 c.before.before.before) c.before.same-bytes5.ensures c.if5.false
+past5 : (c : tie.Else-same_bytes-5) → Tried settings (drop 5 settings) c.args.token.now
+past5 c = missed (past4 c.before.before.before.before) c.same_bytes-5.ensures c.if-same_bytes-5.false
 
-past6 : (c : tie.Else6) → Tried settings (drop 6 settings) c.before.before.before.before.before.before.before.before.before.before.before.before.before.before.before.before.before.before.before.args.token.now
-past6 c = missed (past5 c.before.before.before) c.before.same-bytes6.ensures c.if6.false
+past6 : (c : tie.Else-same_bytes-6) → Tried settings (drop 6 settings) c.args.token.now
+past6 c = missed (past5 c.before.before.before.before) c.same_bytes-6.ensures c.if-same_bytes-6.false
 
-pub name-of-spec : {M : Type 1} → statement M
-name-of-spec =
+pub name_of_spec : {M : Type 1} → statement M
+name_of_spec =
     tie.close
     (tie.spec
-    (λ c. search rules)
     (λ c κs. search rules)
-    (λ c. hit begin c.before.same_bytes.ensures c.if1.true)
-    (λ c. search rules)
+    (λ c. hit begin c.same_bytes.ensures c.if-same_bytes.true)
     (λ c κs. search rules)
-    (λ c. hit (past1 c.before.before.before) c.before.same-bytes2.ensures c.if2.true)
-    (λ c. search rules)
+    (λ c. hit (past1 c.before.before.before.before) c.same_bytes-2.ensures c.if-same_bytes-2.true)
     (λ c κs. search rules)
-    (λ c. hit (past2 c.before.before.before) c.before.same-bytes3.ensures c.if3.true)
-    (λ c. search rules)
+    (λ c. hit (past2 c.before.before.before.before) c.same_bytes-3.ensures c.if-same_bytes-3.true)
     (λ c κs. search rules)
-    (λ c. hit (past3 c.before.before.before) c.before.same-bytes4.ensures c.if4.true)
-    (λ c. search rules)
+    (λ c. hit (past3 c.before.before.before.before) c.same_bytes-4.ensures c.if-same_bytes-4.true)
     (λ c κs. search rules)
-    (λ c. hit (past4 c.before.before.before) c.before.same-bytes5.ensures c.if5.true)
-    (λ c. search rules)
+    (λ c. hit (past4 c.before.before.before.before) c.same_bytes-5.ensures c.if-same_bytes-5.true)
     (λ c κs. search rules)
-    (λ c. hit (past5 c.before.before.before) c.before.same-bytes6.ensures c.if6.true)
+    (λ c. hit (past5 c.before.before.before.before) c.same_bytes-6.ensures c.if-same_bytes-6.true)
     (λ c κs. search rules)
-    (λ c. last (past6 c.before) c.step_of_lem.ensures))
+    (λ c. last (past6 c.before) c.step_of.ensures))

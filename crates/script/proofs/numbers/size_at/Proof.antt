@@ -8,45 +8,45 @@ use Rattle.script.proofs.Sizes.{no_digits, Counted, counted_none, counted_more, 
 use Rattle.script.proofs.numbers.size_at.Statement.{statement}
 use Rattle.script.proofs.numbers.size_at.Tie as tie
 
-abbrev invariant-loop : tie.invariant-loop
-invariant-loop s at start end v₀ k₀ v k = Counted s at end v k
+abbrev invariant-loop-k : tie.invariant-loop-k
+invariant-loop-k s at start end v₀ k₀ v k = Counted s at end v k
 
-abbrev decreases-loop : tie.decreases-loop
-decreases-loop s at start end v₀ k₀ v k = end - k
+abbrev decreases-loop-k : tie.decreases-loop-k
+decreases-loop-k s at start end v₀ k₀ v k = end - k
 
-returns : tie.Need-returns invariant-loop decreases-loop
-returns c = no_digits _ _ c.if1.true ∙ ap (λ (t : Token). size_in c.before.before.before.args.s.now t) c.before.token-at.ensures
+returns : tie.Need-returns-then-end-start invariant-loop-k decreases-loop-k
+returns c = no_digits _ _ c.if-end-start.true ∙ ap (λ (t : Token). size_in c.args.s.now t) c.token_at-t.ensures
 
-loop-holds : tie.Need-loop-init invariant-loop decreases-loop
-loop-holds c = counted_none c.before.token-at.ensures c.if1.false
+loop-holds : tie.Need-loop-k-init invariant-loop-k decreases-loop-k
+loop-holds c = counted_none c.token_at-t.ensures c.if-end-start.false
 
-shared-slice-read-digit : tie.Need-shared-slice-read-digit invariant-loop decreases-loop
-shared-slice-read-digit c = omega (arith, c.before.before.loop.invariant.inside)
+shared-slice-read-digit : tie.Need-bounds-s-k invariant-loop-k decreases-loop-k
+shared-slice-read-digit c = omega (arith, c.loop-k.invariant.inside)
 
-returns-2 : tie.Need-returns-2 invariant-loop decreases-loop
-returns-2 c = counted_letter c.before.before.before.before.loop.invariant c.before.before.before.loop-test.true c.before.digit.ensures c.if2.true
+returns-2 : tie.Need-returns-then-d-ge10 invariant-loop-k decreases-loop-k
+returns-2 c = counted_letter c.loop-k.invariant c.loop-k-test.true c.digit-d.ensures c.if-d-ge10.true
 
-returns-3 : tie.Need-returns-3 invariant-loop decreases-loop
+returns-3 : tie.Need-returns-then-d-v invariant-loop-k decreases-loop-k
 returns-3 c =
-    counted_over c.before.before.before.before.before.loop.invariant c.before.before.before.before.loop-test.true c.before.before.digit.ensures
-    c.before.if2.false
+    counted_over c.loop-k.invariant c.loop-k-test.true c.digit-d.ensures
+    c.if-d-ge10.false
     (omega arith)
 
-loop-again : tie.Need-loop-preserved invariant-loop decreases-loop
+loop-again : tie.Need-loop-k-preserved invariant-loop-k decreases-loop-k
 loop-again c =
-    counted_more c.before.before.before.before.before.loop.invariant c.before.before.before.before.loop-test.true c.before.before.digit.ensures
-    c.before.if2.false
+    counted_more c.loop-k.invariant c.loop-k-test.true c.digit-d.ensures
+    c.if-d-ge10.false
     (omega arith)
 
-returns-4 : tie.Need-returns-4 invariant-loop decreases-loop
-returns-4 c = counted_end c.before.loop.invariant c.loop-test.false
+returns-4 : tie.Need-returns invariant-loop-k decreases-loop-k
+returns-4 c = counted_end c.loop-k.invariant c.loop-k-test.false
 
-pub size-at-spec : {M : Type 1} → statement M
-size-at-spec =
+pub size_at_spec : {M : Type 1} → statement M
+size_at_spec =
     tie.close
     (tie.spec
-    invariant-loop
-    decreases-loop
+    invariant-loop-k
+    decreases-loop-k
     (λ c κs. tt)
     returns
     loop-holds

@@ -5,20 +5,20 @@ use mathlib.Core.Bool.{not}
 use Rattle.script.proofs.text.belongs.Statement.{statement}
 use Rattle.script.proofs.text.belongs.Tie as tie
 
-returns : tie.Need-returns
-returns c = rw c.before.enum_told.given.1 c.is-blank.ensures
+returns : tie.Need-returns-in-Blank
+returns c = rw c.in-Blank.is c.is_blank.ensures
 
-returns-2 : tie.Need-returns-2
-returns-2 c = rw c.before.enum-told2.given.1 (ap not c.is-blank2.ensures)
+returns-2 : tie.Need-returns-in-Mark
+returns-2 c = rw c.in-Mark.is (ap not c.is_blank-in-Mark.ensures)
 
-returns-3 : tie.Need-returns-3
-returns-3 c = rw c.enum-told3.given.1
+returns-3 : tie.Need-returns-in-Code
+returns-3 c = rw c.in-Code.is
 
-returns-4 : tie.Need-returns-4
-returns-4 c = rw c.enum-told4.given.1
+returns-4 : tie.Need-returns-in-Line
+returns-4 c = rw c.in-Line.is
 
-pub belongs-spec : {M : Type 1} → statement M
-belongs-spec =
+pub belongs_spec : {M : Type 1} → statement M
+belongs_spec =
     tie.close
     (tie.spec
     (λ c. search rules)

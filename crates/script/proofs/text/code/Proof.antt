@@ -10,13 +10,13 @@ use Rattle.script.proofs.Runs.{run_in}
 use Rattle.script.proofs.text.code.Statement.{statement}
 use Rattle.script.proofs.text.code.Tie as tie
 
-slice-aggregate-result : tie.Need-slice-aggregate-result
+slice-aggregate-result : tie.Need-slice_bounds-result-end
 slice-aggregate-result c =
-    let l = c.before.before.before.args.line.now in
-    sym (length-take-le c.before.run-end.result l (omega (arith, run_in Code l 0 (omega arith), c.before.run-end.ensures)))
+    let l = c.args.line.now in
+    sym (length-take-le c.run_end-end.result l (omega (arith, run_in Code l 0 (omega arith), c.run_end-end.ensures)))
 
 returns : tie.Need-returns
-returns c = let l = c.before.before.before.args.line.now in ap (λ (n : ℕ). take n l) c.before.run-end.ensures
+returns c = let l = c.args.line.now in ap (λ (n : ℕ). take n l) c.run_end-end.ensures
 
-pub code-spec : {M : Type 1} → statement M
-code-spec = tie.close (tie.spec (λ c κs. search rules) slice-aggregate-result returns)
+pub code_spec : {M : Type 1} → statement M
+code_spec = tie.close (tie.spec (λ c κs. search rules) slice-aggregate-result returns)

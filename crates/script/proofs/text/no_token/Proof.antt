@@ -8,7 +8,7 @@ use Rattle.script.proofs.text.no_token.Statement.{statement}
 use Rattle.script.proofs.text.no_token.Tie as tie
 
 returns : tie.Need-returns
-returns c = ap (λ (n : ℕ). leb (length c.before.before.args.s.now) n) c.run-end.ensures
+returns c = ap (λ (n : ℕ). leb (length c.args.s.now) n) c.run_end.ensures
 
-pub no-token-spec : {M : Type 1} → statement M
-no-token-spec = tie.close (tie.spec (λ c κs. search rules) returns)
+pub no_token_spec : {M : Type 1} → statement M
+no_token_spec = tie.close (tie.spec (λ c κs. search rules) returns)

@@ -4,17 +4,17 @@ use borrow.Author.Tests.{le-leb, lt-leb}
 use Rattle.script.proofs.text.part.Statement.{statement}
 use Rattle.script.proofs.text.part.Tie as tie
 
-returns : tie.Need-returns
-returns c = simp (lt-leb _ _ c.before.if1.true)
+returns : tie.Need-returns-then-s-end
+returns c = simp (lt-leb _ _ c.if-s-end.true)
 
-returns-2 : tie.Need-returns-2
-returns-2 c = simp (le-leb _ _ c.before.before.if1.false, lt-leb _ _ c.before.if2.true)
+returns-2 : tie.Need-returns-then-end-start
+returns-2 c = simp (le-leb _ _ c.if-s-end.false, lt-leb _ _ c.if-end-start.true)
 
-returns-3 : tie.Need-returns-3
-returns-3 c = simp (le-leb _ _ c.before.before.if1.false, le-leb _ _ c.before.if2.false)
+returns-3 : tie.Need-returns
+returns-3 c = simp (le-leb _ _ c.if-s-end.false, le-leb _ _ c.if-end-start.false)
 
-pub part-spec : {M : Type 1} → statement M
-part-spec =
+pub part_spec : {M : Type 1} → statement M
+part_spec =
     tie.close
     (tie.spec
     (λ c. search rules)

@@ -9,31 +9,31 @@ use Rattle.script.proofs.Runs.{run_over, run_stop, run_on}
 use Rattle.script.proofs.text.run_end.Statement.{statement}
 use Rattle.script.proofs.text.run_end.Tie as tie
 
-abbrev invariant-loop : tie.invariant-loop
-invariant-loop s at class k₀ k = end_of class s k ≡ end_of class s at
+abbrev invariant-loop-k : tie.invariant-loop-k
+invariant-loop-k s at class k₀ k = end_of class s k ≡ end_of class s at
 
-abbrev decreases-loop : tie.decreases-loop
-decreases-loop s at class k₀ k = length s - k
+abbrev decreases-loop-k : tie.decreases-loop-k
+decreases-loop-k s at class k₀ k = length s - k
 
-returns : tie.Need-returns invariant-loop decreases-loop
+returns : tie.Need-returns-then-not-belongs invariant-loop-k decreases-loop-k
 returns c =
-    sym (run_stop _ _ _ c.before.before.before.loop-test.true (sym c.before.belongs.ensures ∙ not-true _ c.if1.true))
-    ∙ c.before.before.before.before.loop.invariant
+    sym (run_stop _ _ _ c.loop-k-test.true (sym c.belongs.ensures ∙ not-true _ c.if-not-belongs.true-raw))
+    ∙ c.loop-k.invariant
 
-loop-again : tie.Need-loop-preserved invariant-loop decreases-loop
+loop-again : tie.Need-loop-k-preserved invariant-loop-k decreases-loop-k
 loop-again c =
-    run_on _ _ _ c.before.before.before.loop-test.true (sym c.before.belongs.ensures ∙ not-false _ c.if1.false)
-    ∙ c.before.before.before.before.loop.invariant
+    run_on _ _ _ c.loop-k-test.true (sym c.belongs.ensures ∙ not-false _ c.if-not-belongs.false-raw)
+    ∙ c.loop-k.invariant
 
-returns-2 : tie.Need-returns-2 invariant-loop decreases-loop
-returns-2 c = sym (run_over _ _ _ c.loop-test.false) ∙ c.before.loop.invariant
+returns-2 : tie.Need-returns invariant-loop-k decreases-loop-k
+returns-2 c = sym (run_over _ _ _ c.loop-k-test.false) ∙ c.loop-k.invariant
 
-pub run-end-spec : {M : Type 1} → statement M
-run-end-spec =
+pub run_end_spec : {M : Type 1} → statement M
+run_end_spec =
     tie.close
     (tie.spec
-    invariant-loop
-    decreases-loop
+    invariant-loop-k
+    decreases-loop-k
     (λ c. refl)
     (λ c. omega arith)
     (λ c κs. tt)

@@ -7,36 +7,36 @@ use Rattle.script.proofs.Same.{other_length, Alike, alike_none, alike_more, alik
 use Rattle.script.proofs.text.same_bytes.Statement.{statement}
 use Rattle.script.proofs.text.same_bytes.Tie as tie
 
-abbrev invariant-loop : tie.invariant-loop
-invariant-loop a b k₀ k = Alike a b k
+abbrev invariant-loop-k : tie.invariant-loop-k
+invariant-loop-k a b k₀ k = Alike a b k
 
-abbrev decreases-loop : tie.decreases-loop
-decreases-loop a b k₀ k = length a - k
+abbrev decreases-loop-k : tie.decreases-loop-k
+decreases-loop-k a b k₀ k = length a - k
 
-returns : tie.Need-returns invariant-loop decreases-loop
-returns c = sym (other_length _ _ c.if1.true)
+returns : tie.Need-returns-then-a-b invariant-loop-k decreases-loop-k
+returns c = sym (other_length _ _ c.if-a-b.true)
 
-loop-holds : tie.Need-loop-init invariant-loop decreases-loop
-loop-holds c = alike_none c.if1.false
+loop-holds : tie.Need-loop-k-init invariant-loop-k decreases-loop-k
+loop-holds c = alike_none c.if-a-b.false
 
-shared-slice-read-if2-2 : tie.Need-shared-slice-read-if2-2 invariant-loop decreases-loop
-shared-slice-read-if2-2 c = omega (arith, c.before.before.before.loop.invariant.lengths)
+shared-slice-read-if2-2 : tie.Need-bounds-b-k invariant-loop-k decreases-loop-k
+shared-slice-read-if2-2 c = omega (arith, c.loop-k.invariant.lengths)
 
-returns-2 : tie.Need-returns-2 invariant-loop decreases-loop
-returns-2 c = alike_not c.before.before.before.before.loop.invariant c.before.before.before.loop-test.true c.if2.true
+returns-2 : tie.Need-returns-then-a-k invariant-loop-k decreases-loop-k
+returns-2 c = alike_not c.loop-k.invariant c.loop-k-test.true c.if-a-k.true
 
-loop-again : tie.Need-loop-preserved invariant-loop decreases-loop
-loop-again c = alike_more c.before.before.before.before.loop.invariant c.before.before.before.loop-test.true c.if2.false
+loop-again : tie.Need-loop-k-preserved invariant-loop-k decreases-loop-k
+loop-again c = alike_more c.loop-k.invariant c.loop-k-test.true c.if-a-k.false
 
-returns-3 : tie.Need-returns-3 invariant-loop decreases-loop
-returns-3 c = alike_end c.before.loop.invariant c.loop-test.false
+returns-3 : tie.Need-returns invariant-loop-k decreases-loop-k
+returns-3 c = alike_end c.loop-k.invariant c.loop-k-test.false
 
-pub same-bytes-spec : {M : Type 1} → statement M
-same-bytes-spec =
+pub same_bytes_spec : {M : Type 1} → statement M
+same_bytes_spec =
     tie.close
     (tie.spec
-    invariant-loop
-    decreases-loop
+    invariant-loop-k
+    decreases-loop-k
     returns
     loop-holds
     (λ c. omega arith)

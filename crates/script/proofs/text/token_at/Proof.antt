@@ -4,7 +4,7 @@ use Rattle.script.proofs.text.token_at.Statement.{statement}
 use Rattle.script.proofs.text.token_at.Tie as tie
 
 returns : tie.Need-returns
-returns c = rw (c.run-end2.ensures, c.before.run-end.ensures)
+returns c = rw (c.run_end-end.ensures, c.run_end-start.ensures)
 
-pub token-at-spec : {M : Type 1} → statement M
-token-at-spec = tie.close (tie.spec (λ c κs. search rules) (λ c κs. search rules) returns)
+pub token_at_spec : {M : Type 1} → statement M
+token_at_spec = tie.close (tie.spec (λ c κs. search rules) (λ c κs. search rules) returns)

@@ -6,11 +6,11 @@ use lib.Seq.{length-take-le, take_all}
 use Rattle.script.proofs.write.first.Statement.{statement}
 use Rattle.script.proofs.write.first.Tie as tie
 
-slice-aggregate-result : tie.Need-slice-aggregate-result
+slice-aggregate-result : tie.Need-slice_bounds-result-end
 slice-aggregate-result c = sym (length-take-le _ _ (omega arith))
 
-returns-2 : tie.Need-returns-2
-returns-2 c = sym (take_all _ _ c.if1.false)
+returns-2 : tie.Need-returns
+returns-2 c = sym (take_all _ _ c.if-len-s.false)
 
 pub first_spec : {M : Type 1} → statement M
 first_spec = tie.close (tie.spec slice-aggregate-result (λ c. search rules) returns-2)

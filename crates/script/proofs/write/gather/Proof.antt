@@ -13,11 +13,11 @@ returns c =
     let p = c.before.before in
     let f = p.before in
     let l = f.before.before in
-    let a = l.before.before.before.args in
-    let e = f.first.ensures ∙ ap (λ (n : ℕ). take n a.s.now) l.less.ensures in (
+    let a = l.args in
+    let e = f.first.ensures ∙ ap (λ (n : ℕ). take n a.s.now) l.less-room.ensures in (
       p.put.ensures.0 ∙ ap (λ (s : List ℕ). (put_of s (page a.line.now a.at)).used) e,
       p.put.ensures.1 ∙ ap (λ (s : List ℕ). (put_of s (page a.line.now a.at)).bytes) e,
     )
 
-pub gather-spec : {M : Type 1} → statement M
-gather-spec = tie.close (tie.spec (λ c κs. search rules) (λ c κs. search rules) (λ c κs. search rules) (λ c. search rules) returns)
+pub gather_spec : {M : Type 1} → statement M
+gather_spec = tie.close (tie.spec (λ c κs. search rules) (λ c κs. search rules) (λ c κs. search rules) (λ c. search rules) returns)

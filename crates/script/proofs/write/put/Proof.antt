@@ -6,42 +6,42 @@ use Rattle.script.proofs.Pages.{no_room, Put, put_none, put_more, put_end}
 use Rattle.script.proofs.write.put.Statement.{statement}
 use Rattle.script.proofs.write.put.Tie as tie
 
-abbrev invariant-loop : tie.invariant-loop
-invariant-loop out₀ at s k₀ out k = Put s out₀ at k out
+abbrev invariant-loop-k : tie.invariant-loop-k
+invariant-loop-k out₀ at s k₀ out k = Put s out₀ at k out
 
-abbrev decreases-loop : tie.decreases-loop
-decreases-loop out₀ at s k₀ out k = length s - k
+abbrev decreases-loop-k : tie.decreases-loop-k
+decreases-loop-k out₀ at s k₀ out k = length s - k
 
-returns : tie.Need-returns invariant-loop decreases-loop
-returns c = let a = c.before.args in no_room a.s.now a.out.now a.at (omega arith)
+returns : tie.Need-returns-then-out-s invariant-loop-k decreases-loop-k
+returns c = let a = c.args in no_room a.s.now a.out.now a.at (omega arith)
 
-returns-2 : tie.Need-returns-2 invariant-loop decreases-loop
-returns-2 c = let a = c.before.before.args in no_room a.s.now a.out.now a.at (omega arith)
+returns-2 : tie.Need-returns-then-out-s-2 invariant-loop-k decreases-loop-k
+returns-2 c = let a = c.args in no_room a.s.now a.out.now a.at (omega arith)
 
-loop-holds : tie.Need-loop-init invariant-loop decreases-loop
+loop-holds : tie.Need-loop-k-init invariant-loop-k decreases-loop-k
 loop-holds c = put_none (omega arith)
 
-add-out : tie.Need-overflow-add-out invariant-loop decreases-loop
-add-out c = omega (arith, c.before.before.loop.invariant.room)
+add-out : tie.Need-overflow_add-out invariant-loop-k decreases-loop-k
+add-out c = omega (arith, c.loop-k.invariant.room)
 
-slice-write-out : tie.Need-slice-write-out invariant-loop decreases-loop
-slice-write-out c = omega (arith, c.before.before.loop.invariant.room, c.before.before.loop.invariant.size)
+slice-write-out : tie.Need-bounds-out-at invariant-loop-k decreases-loop-k
+slice-write-out c = omega (arith, c.loop-k.invariant.room, c.loop-k.invariant.size)
 
-loop-again : tie.Need-loop-preserved invariant-loop decreases-loop
-loop-again c = put_more c.before.before.loop.invariant c.before.loop-test.true
+loop-again : tie.Need-loop-k-preserved invariant-loop-k decreases-loop-k
+loop-again c = put_more c.loop-k.invariant c.loop-k-test.true
 
-add-result : tie.Need-overflow-add-result invariant-loop decreases-loop
-add-result c = omega (arith, c.before.loop.invariant.room, c.before.loop.invariant.far)
+add-result : tie.Need-overflow_add-result invariant-loop-k decreases-loop-k
+add-result c = omega (arith, c.loop-k.invariant.room, c.loop-k.invariant.far)
 
-returns-3 : tie.Need-returns-3 invariant-loop decreases-loop
-returns-3 c = put_end c.before.loop.invariant c.loop-test.false
+returns-3 : tie.Need-returns invariant-loop-k decreases-loop-k
+returns-3 c = put_end c.loop-k.invariant c.loop-k-test.false
 
 pub put_spec : {M : Type 1} → statement M
 put_spec =
     tie.close
     (tie.spec
-    invariant-loop
-    decreases-loop
+    invariant-loop-k
+    decreases-loop-k
     returns
     (λ c. omega arith)
     returns-2
@@ -53,5 +53,5 @@ put_spec =
     (λ c. omega arith)
     loop-again
     add-result
-    (λ c. c.before.loop.invariant.size)
+    (λ c. c.loop-k.invariant.size)
     returns-3)

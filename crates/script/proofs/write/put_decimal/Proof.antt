@@ -9,18 +9,18 @@ use Rattle.script.proofs.write.put_decimal.Tie as tie
 
 returns : tie.Need-returns
 returns c =
-    let p = c.before.before.put in
-    let d = c.before.before.before.before.before.decimal in
-    let a = c.before.before.before.before.before.before.before.before.args in
+    let p = c.put in
+    let d = c.decimal-k in
+    let a = c.args in
     record {
       places = d.result;
       fewest = d.ensures.1.0;
-      count = p.ensures.0 ∙ ap (λ (s : List ℕ). (put_of s (page a.out.now a.at)).used) d.ensures.1.1;
-      text = p.ensures.1 ∙ ap (λ (s : List ℕ). (put_of s (page a.out.now a.at)).bytes) d.ensures.1.1;
+      count = p.ensures.0 ∙ ap (λ (s : List ℕ). (put_of s (page a.out.now a.at)).used) d.ensures.1.1.0;
+      text = p.ensures.1 ∙ ap (λ (s : List ℕ). (put_of s (page a.out.now a.at)).bytes) d.ensures.1.1.0;
     }
 
-pub put-decimal-spec : {M : Type 1} → statement M
-put-decimal-spec =
+pub put_decimal_spec : {M : Type 1} → statement M
+put_decimal_spec =
     tie.close
     (tie.spec
     (λ c κs. search rules)

@@ -3,38 +3,33 @@ use borrow.Author.Rules.{rules}
 use Rattle.script.proofs.write.put_stage.Statement.{statement}
 use Rattle.script.proofs.write.put_stage.Tie as tie
 
-returns : tie.Need-returns
-returns c = rw c.before.before.before.before.before.enum_told.given.1 c.before.before.put.ensures
+returns : tie.Need-returns-in-Shut
+returns c = rw c.in-Shut.is c.put.ensures
 
-returns-2 : tie.Need-returns-2
-returns-2 c = rw c.before.before.before.before.before.enum-told2.given.1 c.before.before.put2.ensures
+returns-2 : tie.Need-returns-in-Predicting
+returns-2 c = rw c.in-Predicting.is c.put-in-Predicting.ensures
 
-returns-3 : tie.Need-returns-3
-returns-3 c = rw c.before.before.before.before.before.enum-told3.given.1 c.before.before.put3.ensures
+returns-3 : tie.Need-returns-in-Correcting
+returns-3 c = rw c.in-Correcting.is c.put-in-Correcting.ensures
 
-returns-4 : tie.Need-returns-4
-returns-4 c = rw c.before.before.before.before.before.enum-told4.given.1 c.before.before.put4.ensures
+returns-4 : tie.Need-returns-in-PredictingStepped
+returns-4 c = rw c.in-PredictingStepped.is c.put-in-PredictingStepped.ensures
 
-returns-5 : tie.Need-returns-5
-returns-5 c = rw c.before.before.before.before.before.enum-told5.given.1 c.before.before.put5.ensures
+returns-5 : tie.Need-returns-in-CorrectingStepped
+returns-5 c = rw c.in-CorrectingStepped.is c.put-in-CorrectingStepped.ensures
 
-pub put-stage-spec : {M : Type 1} → statement M
-put-stage-spec =
+pub put_stage_spec : {M : Type 1} → statement M
+put_stage_spec =
     tie.close
     (tie.spec
     (λ c. search rules)
+    (λ c κs. search rules)
     (λ c. search rules)
     (λ c κs. search rules)
     (λ c. search rules)
-    (λ c. search rules)
     (λ c κs. search rules)
     (λ c. search rules)
-    (λ c. search rules)
     (λ c κs. search rules)
-    (λ c. search rules)
-    (λ c. search rules)
-    (λ c κs. search rules)
-    (λ c. search rules)
     (λ c. search rules)
     (λ c κs. search rules)
     (λ c. search rules)

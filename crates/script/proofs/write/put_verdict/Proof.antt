@@ -8,16 +8,15 @@ use Rattle.script.proofs.write.put_verdict.Tie as tie
 returns : tie.Need-returns
 returns c =
     let p = c.before.before.before.before.before.before in
-    let d = p.before.before.before.before.before.put-decimal in
-    record { half = page d.new.0 d.result; number = d.ensures; place = rw (made p.put.ensures) at c.before.before.put-decimal2.ensures }
+    let d = p.put_decimal-next in
+    record { half = page d.new.out d.result; number = d.ensures; place = rw (made p.put-next.ensures) at c.put_decimal.ensures }
 
-pub put-verdict-spec : {M : Type 1} → statement M
-put-verdict-spec =
+pub put_verdict_spec : {M : Type 1} → statement M
+put_verdict_spec =
     tie.close
     (tie.spec
     (λ c. search rules)
     (λ c κs. search rules)
-    (λ c. search rules)
     (λ c κs. search rules)
     (λ c κs. search rules)
     (λ c. search rules)
