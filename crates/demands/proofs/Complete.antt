@@ -212,7 +212,7 @@ use Rattle.script.proofs.text.same_bytes.Kinds as same_bytes_of
 use Rattle.script.proofs.text.same_bytes.Reads as same_bytes
 use Rattle.script.proofs.numbers.list_at.Kinds as list_at_of
 use Rattle.script.proofs.numbers.list_at.Reads as list_at
-use Rattle.script.proofs.write.put.Kinds as Put_of
+use Rattle.script.proofs.write.put.Kinds as put_of
 use Rattle.script.proofs.write.put.Reads as put
 use Rattle.script.proofs.write.gather.Kinds as gather_of
 use Rattle.script.proofs.write.gather.Reads as gather
@@ -554,7 +554,7 @@ same_bytes_one κs a z z' w w' p q = (by p q, refl)
 pub list_at_one : OneAnswer list_at_of.ps list_at_of.r list_at.Learnt
 list_at_one κs a z z' w w' p q = (by p.0 q.0, ap (λ (l : List Float). (tt, (tt, (l, tt)))) (by p.1 q.1))
 
-pub put_one : OneAnswer Put_of.ps Put_of.r put.Learnt
+pub put_one : OneAnswer put_of.ps put_of.r put.Learnt
 put_one κs a z z' w w' p q = (by p.0 q.0, ap (λ (l : List ℕ). (l, (tt, (tt, tt)))) (by p.1 q.1))
 
 pub gather_one : OneAnswer gather_of.ps gather_of.r gather.Learnt

@@ -332,7 +332,7 @@ module _ (f : Format) where
   pub searched_by : (s : Filter) (c : Call) → (asks s c).inputs ≡ searches s c
   searched_by = searches_so
 
-  -- That is slice after slice in the order of their numbers, and so does New search (New of a pair takes the second start right after the first: `new-asks` in Pairs; load searches as New does, and then each half-turn by itself: `Load-asks` in Records);
+  -- That is slice after slice in the order of their numbers, and so does New search (New of a pair takes the second start right after the first: `new-asks` in Pairs; load searches as New does, and then each half-turn by itself: `load_asks` in Records);
   pub searched_in_turn : (s : Filter) (c : Call) → Ascending 50 (asks s c).inputs
   searched_in_turn s c = rw (searches_so s c) (ascending s c)
 

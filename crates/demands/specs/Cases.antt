@@ -64,13 +64,13 @@ accepts (accepted u) v = u is v
 abbrev pub root_is : Format → Float → Float → Bool
 root_is f x r = accepts (root_outcome f x) r
 
+-- the wrap of d by 180
+abbrev pub wrap_is : Format → Float → Float → Bool
+wrap_is f d w = let a = wrapped (wrap_of f d (int 180)) in says a.refusal 0 0 && (a.value is w)
+
 -- the wrap of d by h, accepted, is w
 abbrev pub wrap_by : Format → Float → Float → Float → Bool
 wrap_by f h d w = let a = wrapped (wrap_of f d h) in says a.refusal 0 0 && (a.value is w)
-
--- and by 180
-abbrev pub wrap_is : Format → Float → Float → Bool
-wrap_is f = wrap_by f (int 180)
 
 -- that of d by h is refused by a number at place 0, with +0
 abbrev pub wrap_refused : Format → Float → Float → ℕ → Bool

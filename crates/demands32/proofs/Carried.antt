@@ -17,7 +17,7 @@ use Rattle.filter32.specs.declared.Filter.{Filter}
 use Rattle.filter32.specs.Wide.{wide_sheet, wide_filter}
 use Rattle.demands.specs.Rows.{IsFlat, IsSave}
 use Rattle.demands.specs.Runs.{Told, tells as tells_wide, told as told_wide, ran_to as ran_to_wide, Alike as AlikeWide, StaysOpen as StaysOpenWide, Struck as StruckWide, none_left as none_wide, call_kept as kept_wide, refused_struck as refused_wide, opening_struck as opening_wide, rest as rest_wide}
-use Rattle.demands.specs.Sound.{Reached as ReachedWide, made as made_Wide, further as further_wide, Yielded as YieldedWide, fresh_made as fresh_wide, stepped_on as stepped_wide, put_at_will as at_will_wide}
+use Rattle.demands.specs.Sound.{Reached as ReachedWide, made as made_wide, further as further_wide, Yielded as YieldedWide, fresh_made as fresh_wide, stepped_on as stepped_wide, put_at_will as at_will_wide}
 use Rattle.demands.proofs.Passed.{by_cases}
 use Rattle.demands.proofs.Table.{Own}
 use Rattle.demands.proofs.Leftover.{step_cases}
@@ -105,7 +105,7 @@ pub alike_carried : {s t : Filter} → Alike s t → AlikeWide (wide_filter s) (
 alike_carried a = record { sheet = ap wide_sheet a.sheet; track = a.track }
 
 pub reached_carried : {s : Filter} → Reached s → ReachedWide binary32 (wide_filter s)
-reached_carried (made n x p q params) = subst (ReachedWide binary32) (sym (new_carried n x p q params)) (made_Wide n x p q (wide_params params))
+reached_carried (made n x p q params) = subst (ReachedWide binary32) (sym (new_carried n x p q params)) (made_wide n x p q (wide_params params))
 reached_carried (further {s = s} y c) = subst (ReachedWide binary32) (sym (step_carried s c)) (further_wide (reached_carried y) (wide_call c))
 
 pub yielded_carried : {s : Filter} → Yielded s → YieldedWide binary32 (wide_filter s)

@@ -63,8 +63,11 @@ finite_sign f s n l = ap finite (round_is f s n l) ∙ either _ _ ∙ ap finite 
         go true (suc q) = refl
         go false q = refl
 
-pub short_under : (f : Format) (s : Bool) (n : ℕ) → Short f n → T (finite (round f s n (2 ^ low f))) → n < overflow f
-short_under f s n h t = subst (λ (x : ℕ). x < overflow f) (grid_short f n h) (round_under f n (2 ^ low f) (subst T (finite_sign f s n (2 ^ low f)) t))
+pub short_under : (f : Format) (n : ℕ) → Short f n → T (finite (round f false n (2 ^ low f))) → n < overflow f
+short_under f n h t = subst (λ (x : ℕ). x < overflow f) (grid_short f n h) (round_under f n (2 ^ low f) t)
+
+pub short_under_signed : (f : Format) (s : Bool) (n : ℕ) → Short f n → T (finite (round f s n (2 ^ low f))) → n < overflow f
+short_under_signed f s n h t = short_under f n h (subst T (finite_sign f s n (2 ^ low f)) t)
 
 -- ---- a value that fits, in units
 -- what has a value of n units is n units in size
@@ -170,7 +173,7 @@ module _ (f : Format) (x : Float) (s : Bool) (n : ℕ) (h : Held f x s n) where
       alike false = refl
 
   pub twice_under : T (finite (add f x x)) → n + n < overflow f
-  twice_under t = short_under f s (n + n) (short_twice f n h.short) (subst (λ (z : Float). T (finite z)) sum_is t)
+  twice_under t = short_under_signed f s (n + n) (short_twice f n h.short) (subst (λ (z : Float). T (finite z)) sum_is t)
 
   pub twice_held : n + n < overflow f → Held f (add f x x) s (n + n)
   twice_held u = record {

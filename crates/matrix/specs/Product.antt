@@ -1,4 +1,4 @@
--- `mult_transb`: A-as-Bᵀ of an n×d by m×d pair, n rows of m cells, over a format f. Definitions only.
+-- `mult_transb`: A·Bᵀ of an n×d by m×d pair, n rows of m cells, over a format f. Definitions only.
 use Rattle.std.specs.Prelude.{ℕ, ◌*◌, List, Float}
 use Rattle.std.specs.Float.{Format}
 use Rattle.floats.specs.Numbers.{zeros}
