@@ -61,11 +61,13 @@ fn fill(mut file: impl Write + OpenFile + Drop, bytes: &[u8]) -> io::Result<()> 
 type Name = ArrayString<4104>;
 
 // A file's name, a dot and six characters; none where that is too long.
-fn beside(path: &str, six: &str) -> Option<Name> {
+fn beside(path: &str, six: [char; 6]) -> Option<Name> {
     let mut name = Name::new();
     name.try_push_str(path).ok()?;
-    name.try_push_str(".").ok()?;
-    name.try_push_str(six).ok()?;
+    name.try_push('.').ok()?;
+    for c in six {
+        name.try_push(c).ok()?;
+    }
     Some(name)
 }
 
@@ -76,14 +78,10 @@ fn character(b: u8) -> char {
 }
 
 // Six of them by chance.
-fn six_characters(rt: &impl RandomSource) -> io::Result<ArrayString<6>> {
+fn six_characters(rt: &impl RandomSource) -> io::Result<[char; 6]> {
     let mut bytes = [0u8; 6];
     rt.fill_bytes(&mut bytes)?;
-    let mut six = ArrayString::<6>::new();
-    for b in bytes {
-        let _ = six.try_push(character(b));
-    }
-    Ok(six)
+    Ok(bytes.map(character))
 }
 
 // How many names are tried: 62 * 62 * 62, as by mkstemp of the C library.
@@ -94,7 +92,7 @@ fn create_temp<R: Files + RandomSource>(rt: &R, path: &str) -> io::Result<(R::Fi
     let mut refused = io::Error::from(ErrorKind::AlreadyExists);
     for _ in 0..TRIES {
         let six = six_characters(rt)?;
-        let Some(name) = beside(path, six.as_str()) else {
+        let Some(name) = beside(path, six) else {
             return Err(io::Error::from(ErrorKind::InvalidFilename));
         };
         match OpenOptions::new()
@@ -175,7 +173,7 @@ fn sync_folder_of(rt: &(impl Files + Eprint), path: &str) {
 
 // The bytes to the file of that name, by way of a temporary file beside it that takes its name: whatever happens, all of the old file stands there or all of the new one.
 pub fn replace(rt: &(impl Files + RandomSource + Eprint), path: &str, bytes: &[u8]) -> bool {
-    let Some(any) = beside(path, "XXXXXX") else {
+    let Some(any) = beside(path, ['X'; 6]) else {
         return false;
     };
     if !replace_by(rt, any.as_str(), path, bytes) {
