@@ -1,4 +1,4 @@
--- The wrap over whole numbers of units: the sign and the size of `wrapStep f d h` by those of d and h. Assumes nothing.
+-- The wrap over whole numbers of units: the sign and the size of `wrap_step f d h` by those of d and h. Assumes nothing.
 use mathlib.Core.Path.{◌≡◌, refl, sym, ◌∙◌, subst}
 use mathlib.Core.Bool.{Bool, true, false, not, ◌&&◌, ◌||◌, cond}
 use Prim.Native.Nat.{ℕ, ◌+◌, ◌-◌, ◌%◌, ◌^◌, ◌≤◌, ◌<◌}

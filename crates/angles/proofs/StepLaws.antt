@@ -1,4 +1,4 @@
--- THE LAWS OF THE WRAP (document 02, A9) as a step takes it, in any format and bit for bit: twice is once, −d, and everything times 2 ^ n. First in whole numbers, then of `wrapStep` by a half-turn that has passed its check. Assumes nothing.
+-- THE LAWS OF THE WRAP (document 02, A9) as a step takes it, in any format and bit for bit: twice is once, −d, and everything times 2 ^ n. First in whole numbers, then of `wrap_step` by a half-turn that has passed its check. Assumes nothing.
 use mathlib.Core.Path.{◌≡◌, refl, sym, ap, ap₂, ◌∙◌, subst}
 use mathlib.Core.Bool.{Bool, true, false, not}
 use mathlib.Core.Logic.{◌≢◌}

@@ -1,4 +1,4 @@
--- `rootOf` is the root of IEEE 754, to nearest: over the format, no value is nearer to the exact root, and any value that no other is nearer than is `rootOf`'s,
+-- `root_of` is the root of IEEE 754, to nearest: over the format, no value is nearer to the exact root, and any value that no other is nearer than is `root_of`'s,
 -- but for the sign of a zero. Assumes nothing.
 use mathlib.Core.Path.{◌≡◌, refl, sym, ap, ◌∙◌, subst}
 use mathlib.Core.Bool.{Bool, true, false, ◌&&◌}

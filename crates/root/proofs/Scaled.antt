@@ -1,4 +1,4 @@
--- `rootUnits` by the scaled number whose root has the format's digits, and the bits that stand for a root. Over the format. Assumes nothing.
+-- `root_units` by the scaled number whose root has the format's digits, and the bits that stand for a root. Over the format. Assumes nothing.
 use mathlib.Core.Path.{◌≡◌, refl, sym, ap, ◌∙◌, subst}
 use mathlib.Core.Bool.{Bool, false, cond}
 use Prim.Native.Nat.{ℕ, suc, ◌+◌, ◌-◌, ◌*◌, ◌/◌, ◌%◌, ◌^◌, ◌≤◌, ◌<◌}

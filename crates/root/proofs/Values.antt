@@ -1,4 +1,4 @@
--- `rootOf` and `rooted` by the number that a value is, and by the bits that stand for it. Over the format. Assumes nothing.
+-- `root_of` and `rooted` by the number that a value is, and by the bits that stand for it. Over the format. Assumes nothing.
 use mathlib.Core.Path.{◌≡◌, refl, sym, ap, ◌∙◌, subst}
 use mathlib.Core.Bool.{Bool, true, false, not, cond, true≢false}
 use Prim.Native.Nat.{ℕ, zero, suc, ◌+◌, ◌-◌, ◌*◌, ◌/◌, ◌%◌, ◌^◌, ◌≤◌, ◌<◌}

@@ -1,4 +1,4 @@
--- `words::digit` meets its contract: the tests are those of `digitOf`. Assumes nothing.
+-- `words::digit` meets its contract: the tests are those of `digit_of`. Assumes nothing.
 use borrow.Author.Rules.{rules}
 use native.Mathlib.Omega.{arith}
 use mathlib.Core.Path.{sym, ◌∙◌}

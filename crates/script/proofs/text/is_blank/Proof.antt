@@ -1,4 +1,4 @@
--- `script::text::is_blank` meets its contract: the tests are those of `isBlank`. Assumes nothing.
+-- `script::text::is_blank` meets its contract: the tests are those of `is_blank`. Assumes nothing.
 use borrow.Author.Tests.{eq-eqb, ne_eqb}
 use Rattle.script.specs.Text.{is_blank}
 use Rattle.script.proofs.text.is_blank.Statement.{statement}
