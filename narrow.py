@@ -3,7 +3,7 @@
 
 Code and the proofs of functions are the same text but for the width: an edit belongs into the f64 crate, and is made here again. Definitions and laws are over the format: they are cited, never copied.
 What has no float in it is SHARED: called, and not made again. What the f32 filter lacks is LEFT, a field of it LACKED. Written by hand are specs/, must-fail/, the laws of lists of kinds in angles32, the root of lines32, and the proofs under OWN.
-A contract reads a struct or enum T of f32 as the one of f64, by wideT of specs/Wide.antt; PROOFS, ARGS, HELD and NUMBERS have the few other words in which the widths differ.
+A contract reads a struct or enum T of f32 as the one of f64, by wide_t of specs/Wide.antt; PROOFS, ARGS, HELD and NUMBERS have the few other words in which the widths differ.
 """
 import os
 import re
@@ -34,38 +34,40 @@ LEFT = {
     'lines': ['lib::lib', 'lib::held', 'lib::saved', 'solo::with_measurement', 'solo::with_nothing', 'calls::PairLists', 'calls::PairAt', 'calls::pair_at', 'calls::new_pair', 'calls::kinds_of', 'calls::on_side', 'calls::code',
                'calls::image_correction', 'calls::observed_of', 'calls::stepped', 'answers::bytes', 'answers::image_numbers', 'answers::put_progress', 'answers::put_kept'],
 }
-# a field that f32 lacks, with the lines that make it and fill it in: its constant stands in wideT alone
+# a field that f32 lacks, with the lines that make it and fill it in: its constant stands in wide_t alone
 LACKED = {'filter': ['kept']}
 # proofs that are not made: those written by hand, as at f64 a count of zeros is cast and at f32 it isn't, and as four kinds are read wide at once; and one that isn't needed, as nothing is called where nothing is kept
 OWN = {'root': ['positive_root'], 'correction': ['widened'], 'filter': ['tests::halves', 'drawn::with_drawn']}
-# the structs and enums with floats, and where their wide.. stands
+# the structs and enums with floats, and where their wide_.. stands
 TYPES = {
     'Root': 'root', 'Wrapped': 'angles', 'Residual': 'angles', 'Kind': 'angles', 'Factor': 'matrix', 'Params': 'sigma', 'Drawn': 'sigma', 'Moments': 'sigma', 'Weighting': 'sigma', 'Intake': 'filter',
     'Weighted': 'filter', 'Sheet': 'filter', 'Track': 'filter', 'Filter': 'filter', 'Answer': 'filter', 'ParamsRead': 'filter', 'NewSheet': 'filter', 'NewTrack': 'filter', 'NumberRead': 'script', 'KindRead': 'script',
 }
+# the definition that reads one as f64's
+WIDE = {t: 'wide' + re.sub('[A-Z]', lambda m: '_' + m.group(0).lower(), t) for t in TYPES}
 # words of made proofs that differ, since a list of kinds or an answer is read wide there, a cast has a need of its own, or a field that f32 lacks isn't made: crate -> function -> [(f64's, f32's)]
 PROOFS = {
     'sigma': {
-        'mean::offset': [('d t w kinds i)', 'd t w (wideKinds kinds) i)'), ('.place .ensures .0)', '.place .ensures .0, kind-at)')],
-        'mean::anchored_mean': [('w0m w kinds)', 'w0m w (wideKinds kinds))')],
-        'spread::deviations': [('mean kinds)', 'mean (wideKinds kinds))'), ('(← at .place .ensures .0)', '(← at .place .ensures .0, kind-at)')],
-        'predict::reconstruct_prediction': [('(c .args .kinds)', '(wideKinds (c .args .kinds))')],
-        'weights::weights_pass': [('(at .before .compute-weights .result)', '(wideWeighting (at .before .compute-weights .result))')],
+        'mean::offset': [('d t w kinds i)', 'd t w (wide_kinds kinds) i)'), ('.place-at.ensures.0)', '.place-at.ensures.0, kind_at)')],
+        'mean::anchored_mean': [('w0m w kinds)', 'w0m w (wide_kinds kinds))')],
+        'spread::deviations': [('mean kinds)', 'mean (wide_kinds kinds))'), ('(← at.place-at.ensures.0)', '(← at.place-at.ensures.0, kind_at)')],
+        'predict::reconstruct_prediction': [(' c.args.kinds ', ' (wide_kinds c.args.kinds) ')],
+        'weights::weights_pass': [(' at.compute_weights-c.result ', ' (wide_weighting at.compute_weights-c.result) ')],
     },
     'correction': {
-        'innovation': [('mean kinds)', 'mean (wideKinds kinds))'), ('(c .through-kind .ensures)', '(rw kind-at (c .through-kind .ensures))')],
-        'apply_correction': [('measured = a .measured', 'measured = wideKinds (a .measured)')],
-        'correct_with_weights_residuals': [('(a .kinds)', '(wideKinds (a .kinds))'), ('(a .measured)', '(wideKinds (a .measured))')],
+        'innovation': [('mean kinds)', 'mean (wide_kinds kinds))'), (' c.through_kind.ensures)', ' (rw kind_at c.through_kind.ensures))')],
+        'apply_correction': [('measured = a.measured', 'measured = wide_kinds a.measured')],
+        'correct_with_weights_residuals': [(' a.kinds)', ' (wide_kinds a.kinds))'), ('widened a.measured', 'widened (wide_kinds a.measured)')],
     },
     'filter': {
-        'new::fresh_track': [('use borrow.Author.Needs.{needs}', 'use mathlib.Core.Path.{refl}'), ('rw (c .nothing-kept .ensures)', 'refl'), ('(λ c κs. search needs) ', '')],
-        'Filter::close': [('use borrow.Author.Needs.{needs}\n', ''), ('c .nothing-kept .ensures, eq-eqb _ _ (c .before', 'eq-eqb _ _ (c'), ('(λ c κs. search needs) ', '')],
-        'new::fresh_sheet': [('statement M\n', 'statement M\nunfolding wideKinds\n')],
-        'Filter::set_kind': [('(λ c. has-finished (asked (c .before .before)) (c .if1 .left) refl refl)', '(λ c. rw kinds-set (has-finished (asked (c .before .before)) (c .if1 .left) refl refl))')],
+        'new::fresh_track': [('use borrow.Author.Rules.{rules}', 'use mathlib.Core.Path.{refl}'), ('rw c.nothing_kept-kept.ensures', 'refl'), ('(λ c κs. search rules) ', '')],
+        'Filter::close': [('use borrow.Author.Rules.{rules}\n', ''), ('c.nothing_kept-kept.ensures, ', ''), ('(λ c κs. search rules) ', '')],
+        'new::fresh_sheet': [('statement M\n', 'statement M\nunfolding wide_kinds\n')],
+        'Filter::set_kind': [('(λ c. has_finished (asked c.before.before) c.if-refusal-ne0.false refl refl)', '(λ c. rw kinds_set (has_finished (asked c.before.before) c.if-refusal-ne0.false refl refl))')],
         'tests::kinds_pass': [
-            ('binary32) kinds i', 'binary32) (wideKinds kinds) i'), ('.args .m) (omega arith) (omega arith)\n', '.args .m) (omega (arith, kinds-long (c .before .before .before .args .t2))) (omega arith)\n'),
-            ('plain (omega arith)', 'plain (omega (arith, kinds-long (l .before .args .t2)))'), ('(sym (c .before .kind-passes .ensures) ∙ not-true _ (c .if2 .taken))', '(rw kind-at (sym (c .before .kind-passes .ensures) ∙ not-true _ (c .if2 .taken)))'),
-            ('(sym (c .before .kind-passes .ensures) ∙ not-false _ (c .if2 .left))', '(rw kind-at (sym (c .before .kind-passes .ensures) ∙ not-false _ (c .if2 .left)))'),
+            ('binary32) kinds i', 'binary32) (wide_kinds kinds) i'), (' c.args.m (omega arith) (omega arith)\n', ' c.args.m (omega (arith, kinds_long c.args.kinds)) (omega arith)\n'),
+            ('plain (omega arith)', 'plain (omega (arith, kinds_long l.args.kinds))'), ('(sym c.kind_passes.ensures ∙ not-true _ c.if-not-kind_passes.true-raw)', '(rw kind_at (sym c.kind_passes.ensures ∙ not-true _ c.if-not-kind_passes.true-raw))'),
+            ('(sym c.kind_passes.ensures ∙ not-false _ c.if-not-kind_passes.false-raw)', '(rw kind_at (sym c.kind_passes.ensures ∙ not-false _ c.if-not-kind_passes.false-raw))'),
         ],
     },
     'script': {
@@ -83,14 +85,14 @@ PROOFS = {
     },
 }
 # in proofs: an argument that is an f32 struct, handed to a definition or a law, is handed on wide
-PLACE = r'(?:a|\w+(?: \w+| \((?:[^()]|\([^()]*\))*\))?(?: \.before)* \.args)'
+PLACE = r'(?<![\w.)])(?<!wide_filter )((?:a|(?:\w+|\((?:[^()]|\((?:[^()]|\([^()]*\))*\))*\))(?:\.before)*\.args)'
 ARGS = {
-    'angles': [(rf'\(({PLACE} \.k)\)', r'(wideKind (\1))')],
+    'angles': [(rf'{PLACE}\.k)(?![\w.])', r'(wide_kind \1)')],
     'filter': [
-        (rf'\(({PLACE} \.self)\)', r'(wideFilter (\1))'), (rf'(?<== )({PLACE} \.self)(?= in\b)', r'wideFilter (\1)'), (rf'\(({PLACE} \.self \.sheet)\)', r'(wideSheet (\1))'),
-        (rf'(?<== )({PLACE} \.self \.sheet \.params)', r'wideParams (\1)'), (rf'\(({PLACE} \.params)\)', r'(wideParams (\1))'), (rf'\(({PLACE} \.kinds)\)', r'(wideKinds (\1))'),
-        (rf'\(({PLACE} \.kind)\)', r'(wideKind (\1))'), (r'\((c \.take-in \.result)\)', r'(wideIntake (\1))'), (r'\((c \.before \.reconstruct-prediction \.result)\)', r'(wideMoments (\1))'),
-        (r'(→|in) (c \.generate-sigma-points \.result)(?= ≡)', r'\1 wideDrawn (\2)'), (r'(→|in) (c \.(?:reconstruct-prediction|correct-with-weights-residuals) \.result)(?= ≡)', r'\1 wideMoments (\2)'),
+        (rf'(?<== ){PLACE}\.self)(?= in\b)', r'wide_filter \1'), (rf'{PLACE}\.self)(?![\w.])', r'(wide_filter \1)'), (rf'{PLACE}\.self\.sheet)(?![\w.])', r'(wide_sheet \1)'),
+        (rf'(?<== ){PLACE}\.self\.sheet\.params)(?![\w.])', r'wide_params \1'), (rf'{PLACE}\.params)(?![\w.])', r'(wide_params \1)'), (rf'{PLACE}\.kinds)(?![\w.])', r'(wide_kinds \1)'),
+        (rf'{PLACE}\.kind)(?![\w.])', r'(wide_kind \1)'), (r'(?<=\) )(c\.take_in-lent\.result)', r'(wide_intake \1)'), (r'(?<=false )(c\.reconstruct_prediction-made\.result)', r'(wide_moments \1)'),
+        (r'(?:(?<=→ )|(?<=in ))(c\.generate_sigma_points-d\.result)(?= ≡)', r'wide_drawn \1'), (r'(?:(?<=→ )|(?<=in ))(c\.(?:reconstruct_prediction|correct_with_weights_residuals)-made\.result)(?= ≡)', r'wide_moments \1'),
     ],
 }
 # comments that speak of what is left out: crate/file -> [(f64's, f32's)]
@@ -111,7 +113,7 @@ SAID = {
     'filter/new.rt': [('Each part is made by itself, and several tracks may be put on one sheet.', 'Each part is made by itself.')],
 }
 # where the words that a made proof takes in stand
-HOMES = {w: ('angles', 'proofs.Places') for w in ('kind-at', 'kinds-set', 'kinds-long')}
+HOMES = {w: ('angles', 'proofs.Places') for w in ('kind_at', 'kinds_set', 'kinds_long')}
 # in lines: at f32 the filter is all that is held and its answer all that a call has left, and there is no side, no flat close and no stepped call
 HELD = [
     (r'^ *Name::(?:Ask|Image\w+|\w+Stepped|Save|Load)\b.* => (?:\{\n.*\n *\}|.*)\n', ''), (r'\bstepped\(name, held, s, at, out, used\)', 'answers::bad(held, out, used)'), (r'observed_of\(name, ', 'script::list_at('), (r'closing_at\(name(?:: Name)?, ', 'closing_at('), (r'^ *let at = put_kept\(.*\n', ''),
@@ -124,7 +126,7 @@ HELD = [
 # the numbers of the format, where code and proofs work from the bits and their digits
 NUMBERS = {
     'root': {
-        'nearest_root': 'root_digits', 'nearest-root': 'root-digits', '52': '23', '53': '24', '54': '25', '63': '31', '64': '32', '11': '8', '1021': '125', '1022': '126', '1074': '149', '3068': '380', '0x7ff': '0xff', '0x800': '0x100', 'u64': 'u32', 'z as u64': 'z',
+        'nearest_root': 'root_digits', 'nearest-root': 'root-digits', '52': '23', '53': '24', '54': '25', '63': '31', '64': '32', '11': '8', '1021': '125', '1022': '126', '1074': '149', '3068': '380', '0x7ff': '0xff', 'b-ge2047': 'b-ge255', '0x800': '0x100', 'u64': 'u32', 'z as u64': 'z',
         '0xf_ffff_ffff_ffff': '0x7f_ffff', '0x10_0000_0000_0000': '0x80_0000', '0x20_0000_0000_0000': '0x100_0000', '0x7fff_ffff_ffff_ffff': '0x7fff_ffff', '0x7ff0_0000_0000_0000': '0x7f80_0000',
     },
     'words': {
@@ -136,21 +138,47 @@ NUMBERS = {
         '(bytes and tokens, sizes, numbers, lists and kinds, records in hex, the call that a line names)': '(numbers, lists and kinds)',
     },
 }
-FN = re.compile(r'^(?P<head> *(?:pub )?fn \w+\((?P<params>[^{]*?)\)(?: -> (?P<result>[^\n{]+))?\n)(?P<contract>(?: +(?:requires|ensures) \{.*\}\n)+)', re.M)
+FN = re.compile(r'^(?P<head> *(?:pub )?fn \w+\((?P<params>[^{]*?)\)(?: -> (?P<result>[^\n{]+))?\n)(?P<contract>(?: +(?:requires|ensures)(?: \w+)? \{.*\}\n)+)', re.M)
 
 
 def without(text, name):
-    """A source without an item of that name and the comment above it, or without that module."""
+    """A source without an item of that name and the comment and derives above it, or without that module."""
     if f'pub mod {name};\n' in text:
         return text.replace(f'pub mod {name};\n', '')
-    found = re.search(rf'(?:^ *//[^\n]*\n)*^(?P<in> *)(?:pub )?(?:fn|enum|struct) {name}\b.*?^(?P=in)}}\n\n?', text, re.M | re.S)
+    found = re.search(rf'(?:^ *(?://|#\[)[^\n]*\n)*^(?P<in> *)(?:pub )?(?:fn|enum|struct) {name}\b.*?^(?P=in)}}\n\n?', text, re.M | re.S)
     return text.replace(found.group(0), '')
+
+
+def flat(text):
+    """A source with an import for each name, in place of several in braces."""
+    return re.sub(r'^((?:pub )?use [^{};\n]+)\{([^}]*)\};\n', lambda m: ''.join(f'{m[1]}{n.strip()};\n' for n in m[2].split(',') if n.strip()), text, flags=re.M)
+
+
+def grouped(lines):
+    """Imports, an import for each name, as they are laid out: those of one module in braces, in order."""
+    by = {}
+    for line in lines:
+        head, name = re.fullmatch(r'(.*?)(\w+);\n', line).groups()
+        by.setdefault(head, []).append(name)
+    out = []
+    for head, names in by.items():
+        names = sorted(names)
+        text = f'{head}{names[0]};\n' if len(names) == 1 else f'{head}{{{", ".join(names)}}};\n'
+        if len(text) > 101:
+            rows = ['   ']
+            for n in names:
+                if len(rows[-1]) + len(n) + 2 > 100:
+                    rows.append('   ')
+                rows[-1] += f' {n},'
+            text = '\n'.join([head + '{', *rows, '};', ''])
+        out.append(text)
+    return ''.join(sorted(out, key=lambda u: (not u.startswith('use crate'), u.split('use ')[1].rstrip(';\n').split('::'))))
 
 
 def handed(crate):
     """The names by which others call what is shared of a crate."""
     root = os.path.join(HERE, 'crates', crate, 'src', 'lib.rt')
-    text = open(root, encoding='utf-8').read() if os.path.exists(root) else ''
+    text = flat(open(root, encoding='utf-8').read()) if os.path.exists(root) else ''
     for s in SHARED.get(crate, []):
         module, item = s.split('::')
         yield from [item, *re.findall(rf'^pub use {item}::(\w+);', text, re.M)] if module == 'lib' else [s, item]
@@ -174,15 +202,18 @@ def imported(text, line):
 def trimmed(text):
     """A source without the imports that nothing names any more, and without headings that nothing stands under."""
     body = re.sub(r'^(?:ghost )?use [^\n]*\n|//[^\n]*', '', text, flags=re.M)
-    promises = ''.join(re.findall(r'^ +(?:requires|ensures) [^\n]*\n', text, re.M))
+    promises = ''.join(re.findall(r'^ +(?:requires|ensures)(?: \w+)?( \{[^\n]*\n)', text, re.M))
 
     def ghost(m):
-        names = [n for n in m.group(2).split(', ') if re.search(rf'(?<![\w.-]){re.escape(n.strip("_"))}(?![\w-])' if n[0] != '_' else re.escape(n.strip('_')), promises)]
+        names = [n for n in m.group(2).split(', ') if (re.search(rf'(?<![\w.-]){re.escape(n)}(?![\w-])', promises) if n[0].isalpha() else n.strip('◌') in promises)]
         return f'{m.group(1)}{{{", ".join(names)}}};\n' if names else ''
 
     text = re.sub(r'^(ghost use [^\n{]*)\{([^}]*)\};\n', ghost, text, flags=re.M)
-    uses = sorted({u for u in re.findall(r'^use [^\n]*\n', text, re.M) if re.search(rf'\b{u[4:-2].split("::")[-1]}\b', body)}, key=lambda u: (not u.startswith('use crate'), u[4:-2].split('::')))
-    text = re.sub(r'(?:^use [^\n]*\n)+', lambda m: ''.join(uses), text, count=1, flags=re.M)
+    uses = {u for u in re.findall(r'^use [^\n]*\n', text, re.M) if re.search(rf'\b{u[4:-2].split("::")[-1]}\b', body)}
+    text = re.sub(r'(?:^use [^\n]*\n)+', lambda m: grouped(uses), text, count=1, flags=re.M)
+    text = re.sub(r'(?:^pub use [^\n]*\n)+', lambda m: grouped(m.group(0).splitlines(keepends=True)), text, flags=re.M)
+    text = re.sub(r'^(ghost use [^\n]*\n)(?=use )', r'\1\n', text, flags=re.M)
+    text = re.sub(r'\A((?://[^\n]*\n)+)\n(?=use )', r'\1', text)
     text = re.sub(r'// ---- [^\n]*\n\n(?=// ---- )', '', text)
     return re.sub(r'\n\n(?=}\n)', '\n', re.sub(r'\n{3,}', '\n\n', text)).rstrip('\n') + '\n'
 
@@ -191,16 +222,16 @@ def wide(kind):
     """The definition that reads a type, or an array of it, as the f64 one."""
     array = re.fullmatch(r'\[(\w+); \d+\]', kind)
     if array and array.group(1) in TYPES:
-        return f'wide{array.group(1)}s'
-    return f'wide{kind}' if kind in TYPES else None
+        return WIDE[array.group(1)] + 's'
+    return WIDE.get(kind)
 
 
 def home(word):
-    return HOMES.get(word) or (TYPES[word[4:] if word[4:] in TYPES else word[4:-1]], 'specs.Wide')
+    return HOMES.get(word) or next((TYPES[t], 'specs.Wide') for t, w in WIDE.items() if word in (w, w + 's'))
 
 
-def path(floor, module, crate):
-    return f'Rattle·{floor}32·{module.split(".")[0]}.{module}' if floor == crate else f'Rattle·{floor}32.{module}'
+def path(floor, module):
+    return f'Rattle.{floor}32.{module}'
 
 
 def contracts(text, crate):
@@ -211,27 +242,25 @@ def contracts(text, crate):
         params = [p.strip().split(':') for p in re.sub(r'\s+', ' ', m.group('params')).split(', ') if p.strip(' ,')]
         contract = m.group('contract')
         for p in params:
-            w = wide(p[1].strip(' ,')) if len(p) > 1 else 'wideFilter' if p[0] == 'self' else None
+            w = wide(p[1].strip(' ,')) if len(p) > 1 else 'wide_filter' if p[0] == 'self' else None
             if w:
                 used.add(w)
                 contract = re.sub(rf'(?<![\w.-]){p[0]}(?![\w-]| = )', f'({w} {p[0]})', contract)
         w = wide((m.group('result') or '').strip())
         if w:
             used.add(w)
-            v = re.search(r'ensures \{ λ (\w+)\.', contract).group(1)
-            contract = re.sub(rf'(?<=⌜ ){v} ≡', f'{w} {v} ≡', contract).replace(f'outcomeOf {v} ', f'outcomeOf ({w} {v}) ')
-        return m.group('head') + re.sub(r'(?<=\()\((wide\w+ \w+)\)(?= \.)', r'\1', contract)
+            contract = re.sub(r'(?<=\{ )result(?= ≡)', f'{w} result', contract).replace('outcome_of result ', f'outcome_of ({w} result) ')
+        return m.group('head') + contract
 
     text = FN.sub(one, text)
     for there in sorted({home(w) for w in used}):
         words = ', '.join(sorted(w for w in used if home(w) == there))
-        text = imported(text, f'ghost use {path(*there, crate)}.{{{words}}};\n')
+        text = imported(text, f'ghost use {path(*there)}.{{{words}}};\n')
     return text
 
 
 def common(text, crate):
-    text = re.sub(rf'Rattle·{crate}·proofs\.proofs\.([\w.]+\.(?:Statement|Tie)\b)', rf'Rattle·{crate}32·proofs.proofs.\1', text)
-    text = re.sub(rf'Rattle·{crate}·(proofs|specs)\.\1\.', rf'Rattle·{crate}.\1.', text)
+    text = re.sub(rf'Rattle\.{crate}\.proofs\.([\w.]+\.(?:Statement|Tie|Lts)\b)', rf'Rattle.{crate}32.proofs.\1', text)
     text = re.sub(r'(?<!\w)f64\b|(?<=0)f64\b', 'f32', text).replace('binary64', 'binary32').replace('double', 'f32')
     for word, other in sorted(NUMBERS.get(crate, {}).items(), key=lambda w: -len(w[0])):
         before, after = '' if word[0].isalpha() else '.', r'\b' if word[-1].isalnum() else ''
@@ -240,6 +269,7 @@ def common(text, crate):
 
 
 def source(crate, name, text):
+    text = flat(text)
     for a, b in SAID.get(f'{crate}/{name}', []):
         assert a in text, (crate, name, a)
         text = text.replace(a, b)
@@ -269,7 +299,7 @@ def source(crate, name, text):
     for floor in CRATES:
         shared = '|'.join(re.escape(w) for w in handed(floor)) or '-'
         if floor != crate:
-            text = re.sub(rf'(?<![\w:·.]){floor}::(?!(?:{shared})\b)', f'{floor}32::', text)
+            text = re.sub(rf'(?<![\w:.]){floor}::(?!(?:{shared})\b)', f'{floor}32::', text)
     return trimmed(common(text, crate))
 
 
@@ -280,8 +310,8 @@ def proof(crate, where, text):
     for a, b in PROOFS.get(crate, {}).get(where, []):
         assert a in text, (crate, where, a)
         text = text.replace(a, b)
-    uses = {w: home(w) for w in re.findall(r'\bwide[A-Z]\w*|\bkinds?-(?:at|set|long)(?![\w-])', text)}
-    lines = ''.join(f'use {path(*uses[w], crate)}.{{{w}}}\n' for w in sorted(uses))
+    uses = {w: home(w) for w in re.findall(r'(?<![\w.-])(?:wide_\w+|kinds?_(?:at|set|long))(?![\w-])', text)}
+    lines = ''.join(f'use {path(*uses[w])}.{{{w}}}\n' for w in sorted(uses))
     return re.sub(r'(?=use Rattle[^\n]*Statement)', lines, text, count=1)
 
 

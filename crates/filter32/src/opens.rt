@@ -17,7 +17,7 @@ impl Filter {
     // The call is open, and its points are written out.
     fn opened(self, stage: Stage, d: Weighted, out: &mut [f32]) -> Answer
         requires { ((wide_filter self).sheet.n ≤ 8) × (point_numbers (wide_filter self).sheet.n ≤ length out.old) }
-        ensures result_value { wide_answer result ≡ record { filter = filter (wide_filter self).sheet (with_drawn (wide_filter self).track stage (wide_weighted d)); refusal = taken } }
+        ensures value { wide_answer result ≡ record { filter = filter (wide_filter self).sheet (with_drawn (wide_filter self).track stage (wide_weighted d)); refusal = taken } }
         ensures out_after { out.new ≡ over (take (point_numbers (wide_filter self).sheet.n) (wide_weighted d).points) out.old }
     {
         let n = self.sheet.n;
@@ -36,7 +36,7 @@ impl Filter {
     // An open call by the stage that it leads to. A correction that isn't stale has the current weights and points; else they are drawn afresh.
     fn open(self, stage: Stage, out: &mut [f32]) -> Answer
         requires { is_whole stage ≡ true }
-        ensures result_value { wide_answer result ≡ answered (step binary32 (wide_filter self) (opening stage out.old)) }
+        ensures value { wide_answer result ≡ answered (step binary32 (wide_filter self) (opening stage out.old)) }
         ensures out_after { out.new ≡ over (step binary32 (wide_filter self) (opening stage out.old)).reply.given out.old }
     {
         let sheet = self.sheet;
@@ -78,14 +78,14 @@ impl Filter {
     }
 
     pub fn open_prediction(self, out: &mut [f32]) -> Answer
-        ensures result_value { wide_answer result ≡ answered (step binary32 (wide_filter self) (setting (open_prediction out.old))) }
+        ensures value { wide_answer result ≡ answered (step binary32 (wide_filter self) (setting (open_prediction out.old))) }
         ensures out_after { out.new ≡ over (step binary32 (wide_filter self) (setting (open_prediction out.old))).reply.given out.old }
     {
         self.open(Stage::Predicting, out)
     }
 
     pub fn open_correction(self, out: &mut [f32]) -> Answer
-        ensures result_value { wide_answer result ≡ answered (step binary32 (wide_filter self) (setting (open_correction out.old))) }
+        ensures value { wide_answer result ≡ answered (step binary32 (wide_filter self) (setting (open_correction out.old))) }
         ensures out_after { out.new ≡ over (step binary32 (wide_filter self) (setting (open_correction out.old))).reply.given out.old }
     {
         self.open(Stage::Correcting, out)

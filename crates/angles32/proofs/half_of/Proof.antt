@@ -4,9 +4,9 @@ use lib.Ieee.{of_bits}
 use Rattle.angles32.proofs.half_of.Statement.{statement}
 use Rattle.angles32.proofs.half_of.Tie as tie
 
-returns : tie.Need-returns
+returns : tie.Need-returns-in-Plain
 unfolding of_bits
-returns c = rw c.enum_told.given.1
+returns c = rw c.in-Plain.is
 
-pub half-of-spec : {M : Type 1} → statement M
-half-of-spec = tie.close (tie.spec (λ c. search rules) (λ c. search rules) returns (λ c. search rules))
+pub half_of_spec : {M : Type 1} → statement M
+half_of_spec = tie.close (tie.spec (λ c. search rules) (λ c. search rules) returns (λ c. search rules))

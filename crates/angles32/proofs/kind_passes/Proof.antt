@@ -3,8 +3,8 @@ use borrow.Author.Rules.{rules}
 use Rattle.angles32.proofs.kind_passes.Statement.{statement}
 use Rattle.angles32.proofs.kind_passes.Tie as tie
 
-returns-2 : tie.Need-returns-2
-returns-2 c = rw c.before.before.residual.given.1 c.is-half-turn.ensures
+returns-2 : tie.Need-returns-in-Turn
+returns-2 c = rw c.in-Turn.is c.is_half_turn.ensures
 
-pub kind-passes-spec : {M : Type 1} → statement M
-kind-passes-spec = tie.close (tie.spec (λ c. search rules) (λ c. search rules) (λ c κs. search rules) (λ c. search rules) returns-2)
+pub kind_passes_spec : {M : Type 1} → statement M
+kind_passes_spec = tie.close (tie.spec (λ c. search rules) (λ c. search rules) (λ c κs. search rules) (λ c. search rules) returns-2)

@@ -9,20 +9,20 @@ use Rattle.angles32.specs.Wide.{wide_kind}
 use Rattle.angles32.proofs.kind_refusal.Statement.{statement}
 use Rattle.angles32.proofs.kind_refusal.Tie as tie
 
-returns : tie.Need-returns
+returns : tie.Need-returns-then-not-is_finite
 returns c =
     let d = c.before.before in
-    rw (c.placeless.ensures, sym (d.is-finite.ensures ∙ ap finite d.before.half_of_lem.ensures) ∙ not-true _ c.before.if1.true)
+    rw (c.placeless.ensures, sym (d.is_finite.ensures ∙ ap finite d.half_of.ensures) ∙ not-true _ c.if-not-is_finite.true-raw)
 
-is-good : (c : tie.Else1) → finite (half_of (wide_kind c.before.before.before.args.k)) ≡ true
-is-good c = sym (c.before.is-finite.ensures ∙ ap finite c.before.before.half_of_lem.ensures) ∙ not-false _ c.if1.false
+is-good : (c : tie.Else-not-is_finite) → finite (half_of (wide_kind c.args.k)) ≡ true
+is-good c = sym (c.is_finite.ensures ∙ ap finite c.half_of.ensures) ∙ not-false _ c.if-not-is_finite.false-raw
 
-returns-2 : tie.Need-returns-2
-returns-2 c = rw (c.placeless2.ensures, is-good c.before.before.before, sym c.before.before.kind-passes.ensures ∙ not-true _ c.before.if2.true)
+returns-2 : tie.Need-returns-then-not-kind_passes
+returns-2 c = rw (c.placeless-then-not-kind_passes.ensures, is-good c.before.before.before, sym c.kind_passes.ensures ∙ not-true _ c.if-not-kind_passes.true-raw)
 
-returns-3 : tie.Need-returns-3
-returns-3 c = rw (c.placeless3.ensures, is-good c.before.before.before, sym c.before.before.kind-passes.ensures ∙ not-false _ c.before.if2.false)
+returns-3 : tie.Need-returns
+returns-3 c = rw (c.placeless-2.ensures, is-good c.before.before.before, sym c.kind_passes.ensures ∙ not-false _ c.if-not-kind_passes.false-raw)
 
-pub kind-refusal-spec : {M : Type 1} → statement M
-kind-refusal-spec =
+pub kind_refusal_spec : {M : Type 1} → statement M
+kind_refusal_spec =
     tie.close (tie.spec (λ c κs. search rules) (λ c κs. search rules) (λ c κs. search rules) returns (λ c κs. search rules) (λ c κs. search rules) returns-2 (λ c κs. search rules) returns-3)

@@ -7,25 +7,25 @@ use Rattle.angles.specs.Wrap.{wrap_of}
 use Rattle.angles32.proofs.wrap.Statement.{statement}
 use Rattle.angles32.proofs.wrap.Tie as tie
 
-returns : tie.Need-returns
+returns : tie.Need-returns-then-not-all_finite
 unfolding wrap_of of_bits
-returns c = rw (c.placeless.ensures, sym c.before.before.all-finite.ensures ∙ not-true _ c.before.if1.true)
+returns c = rw (c.placeless.ensures, sym c.all_finite.ensures ∙ not-true _ c.if-not-all_finite.true-raw)
 
-returns-2 : tie.Need-returns-2
+returns-2 : tie.Need-returns-then-not-is_half_turn
 unfolding wrap_of of_bits
 returns-2 c =
     let d = c.before in
-    rw (c.placeless2.ensures, sym d.before.before.before.all-finite.ensures ∙ not-false _ d.before.before.if1.false, sym d.before.is-half-turn.ensures ∙ not-true _ d.if2.true)
+    rw (c.placeless-then-not-is_half_turn.ensures, sym d.all_finite.ensures ∙ not-false _ d.if-not-all_finite.false-raw, sym d.is_half_turn.ensures ∙ not-true _ d.if-not-is_half_turn.true-raw)
 
-returns-3 : tie.Need-returns-3
+returns-3 : tie.Need-returns
 unfolding wrap_of of_bits
 returns-3 c =
     let d = c.before.before in
     rw (
-      c.before.placeless3.ensures,
-      sym d.before.before.before.all-finite.ensures ∙ not-false _ d.before.before.if1.false,
-      sym d.before.is-half-turn.ensures ∙ not-false _ d.if2.false,
-      c.wrap-step.ensures,
+      c.placeless-2.ensures,
+      sym d.all_finite.ensures ∙ not-false _ d.if-not-all_finite.false-raw,
+      sym d.is_half_turn.ensures ∙ not-false _ d.if-not-is_half_turn.false-raw,
+      c.wrap_step.ensures,
     )
 
 pub wrap_spec : {M : Type 1} → statement M

@@ -13,7 +13,7 @@ use Rattle.correction32.proofs.widened.Tie as tie
 
 returns : tie.Need-returns
 unfolding wide_kinds
-returns c = ap (λ (l : List Kind). widened (wide_kinds l)) (four c.before.before.before.before.args.t1 plain (omega arith))
+returns c = ap (λ (l : List Kind). widened (wide_kinds l)) (four c.args.kinds plain (omega arith))
 
-pub widened-spec : {M : Type 1} → statement M
-widened-spec = tie.close (tie.spec (λ c. search rules) (λ c. search rules) (λ c. search rules) (λ c. search rules) returns)
+pub widened_spec : {M : Type 1} → statement M
+widened_spec = tie.close (tie.spec (λ c. search rules) (λ c. search rules) (λ c. search rules) (λ c. search rules) returns)

@@ -9,40 +9,40 @@ use Rattle.floats.proofs.Search.{bad_at, bad_nowhere}
 use Rattle.floats32.proofs.first_bad.Statement.{statement}
 use Rattle.floats32.proofs.first_bad.Tie as tie
 
-abbrev invariant-loop : tie.invariant-loop
-invariant-loop slice s k i₀ i = (i ≤ k) × Passed s i
+abbrev invariant-loop-place : tie.invariant-loop-place
+invariant-loop-place slice s k i₀ i = (i ≤ k) × Passed s i
 
-abbrev decreases-loop : tie.decreases-loop
-decreases-loop slice s k i₀ i = k - i
+abbrev decreases-loop-place : tie.decreases-loop-place
+decreases-loop-place slice s k i₀ i = k - i
 
-returns : tie.Need-returns invariant-loop decreases-loop
+returns : tie.Need-returns-then-place-s invariant-loop-place decreases-loop-place
 returns c =
     let l = c.before.before.before in
-    c.placeless.ensures ∙ bad_nowhere _ _ (passed_over l.loop.invariant.1 l.before.before.args.k (omega arith) (omega arith))
+    c.placeless.ensures ∙ bad_nowhere _ _ (passed_over l.loop-place.invariant.1 l.before.before.args.k (omega arith) (omega arith))
 
-returns-2 : tie.Need-returns-2 invariant-loop decreases-loop
+returns-2 : tie.Need-returns-then-not-is_finite invariant-loop-place decreases-loop-place
 returns-2 c =
     let d = c.before in
     let l = d.before.before.before.before.before in
-    ap (λ (n : ℕ). record { number = n; place = l.loop.place }) c.slice-number.ensures
-    ∙ bad_at _ _ l.loop.place l.before.before.args.k (omega arith) (omega arith) l.loop.invariant.1.is (sym d.before.is-finite.ensures ∙ not-true _ d.if2.true)
+    ap (λ (n : ℕ). record { number = n; place = l.loop-place.place }) c.slice_number-number.ensures
+    ∙ bad_at _ _ l.loop-place.place l.before.before.args.k (omega arith) (omega arith) l.loop-place.invariant.1.is (sym d.before.is_finite.ensures ∙ not-true _ d.if-not-is_finite.true-raw)
 
-loop-again : tie.Need-loop-preserved invariant-loop decreases-loop
+loop-again : tie.Need-loop-place-preserved invariant-loop-place decreases-loop-place
 loop-again c =
     let l = c.before.before.before.before.before in
-    (omega arith, passed_more l.loop.invariant.1 (omega arith) (sym c.before.is-finite.ensures ∙ not-false _ c.if2.false))
+    (omega arith, passed_more l.loop-place.invariant.1 (omega arith) (sym c.before.is_finite.ensures ∙ not-false _ c.if-not-is_finite.false-raw))
 
-returns-3 : tie.Need-returns-3 invariant-loop decreases-loop
+returns-3 : tie.Need-returns invariant-loop-place decreases-loop-place
 returns-3 c =
     let l = c.before.before in
-    c.placeless2.ensures ∙ bad_nowhere _ _ (passed_end l.loop.invariant.1 l.before.before.args.k (omega arith))
+    c.placeless-2.ensures ∙ bad_nowhere _ _ (passed_end l.loop-place.invariant.1 l.before.before.args.k (omega arith))
 
-pub first-bad-spec : {M : Type 1} → statement M
-first-bad-spec =
+pub first_bad_spec : {M : Type 1} → statement M
+first_bad_spec =
     tie.close
     (tie.spec
-    invariant-loop
-    decreases-loop
+    invariant-loop-place
+    decreases-loop-place
     (λ c. (omega arith, passed_none))
     (λ c κs. search rules)
     returns

@@ -5,5 +5,5 @@ use Rattle.floats.proofs.Refusals.{earlier_first, earlier_second}
 use Rattle.floats32.proofs.next_bad.Statement.{statement}
 use Rattle.floats32.proofs.next_bad.Tie as tie
 
-pub next-bad-spec : {M : Type 1} → statement M
-next-bad-spec = tie.close (tie.spec (λ c. sym (earlier_first _ _ c.if1.true)) (λ c κs. search rules) (λ c. c.first-bad.ensures ∙ sym (earlier_second _ _ c.before.if1.false)))
+pub next_bad_spec : {M : Type 1} → statement M
+next_bad_spec = tie.close (tie.spec (λ c. sym (earlier_first _ _ c.if-found-ne0.true)) (λ c κs. search rules) (λ c. c.first_bad.ensures ∙ sym (earlier_second _ _ c.before.if-found-ne0.false)))

@@ -10,29 +10,29 @@ use Rattle.root32.proofs.square_root.Statement.{statement}
 use Rattle.root32.proofs.square_root.Tie as tie
 
 -- the bits have more than a sign
-more : (c : tie.Else2) → to_bits binary32 c.before.before.args.x % 2 ^ 31 ≡ 0 → ⊥
-more c e = c.if2.false (and_mask (to_bits binary32 c.before.before.args.x) 31 ∙ e)
+more : (c : tie.Else-b-eq0) → to_bits binary32 c.before.before.args.x % 2 ^ 31 ≡ 0 → ⊥
+more c e = c.if-b-eq0.false (and_mask (to_bits binary32 c.before.before.args.x) 31 ∙ e)
 
-returns-2 : tie.Need-returns-2
-returns-2 c = let s = c.before.before in zero_out binary32 _ s.well-formed.0.1 (sym (and_mask (to_bits binary32 s.args.x) 31) ∙ c.if2.true)
+returns-2 : tie.Need-returns-then-b-eq0
+returns-2 c = let s = c.before.before in zero_out binary32 _ s.well_formed.0.1 (sym (and_mask (to_bits binary32 s.args.x) 31) ∙ c.if-b-eq0.true)
 
-returns-3 : tie.Need-returns-3
-returns-3 c = let s = c.before.before.before in refused_out binary32 _ s.well-formed.0.1 (more c.before) (omega (arith, c.if3.true))
+returns-3 : tie.Need-returns-then-b-ge255
+returns-3 c = let s = c.before.before.before in refused_out binary32 _ s.well_formed.0.1 (more c.before) (omega (arith, c.if-b-ge255.true))
 
-positive-root-requires : tie.Need-positive-root-requires
-positive-root-requires c κs = (omega (arith, more c.before), omega (arith, c.if3.false))
+positive-root-requires : tie.Need-positive_root-requires
+positive-root-requires c κs = (omega (arith, more c.before), omega (arith, c.if-b-ge255.false))
 
-returns-4 : tie.Need-returns-4
+returns-4 : tie.Need-returns
 returns-4 c =
     let s = c.before.before.before.before in
-    root_out binary32 _ s.well-formed.0.1 (more c.before.before) (omega (arith, c.before.if3.false)) c.positive-root.ensures
+    root_out binary32 _ s.well_formed.0.1 (more c.before.before) (omega (arith, c.before.if-b-ge255.false)) c.positive_root.ensures
 
-pub square-root-spec : {M : Type 1} → statement M
-square-root-spec =
+pub square_root_spec : {M : Type 1} → statement M
+square_root_spec =
     tie.close
     (tie.spec
-    (λ c. nan_out binary32 c.before.args.x c.if1.true)
-    (λ c. no_nan c.before.args.x c.if1.false)
+    (λ c. nan_out binary32 c.before.args.x c.if-x.true)
+    (λ c. no_nan c.before.args.x c.if-x.false)
     returns-2
     returns-3
     positive-root-requires

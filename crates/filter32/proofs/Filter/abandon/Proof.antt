@@ -13,16 +13,16 @@ use Rattle.filter32.specs.Wide.{wide_filter}
 use Rattle.filter32.proofs.Filter.abandon.Statement.{statement}
 use Rattle.filter32.proofs.Filter.abandon.Tie as tie
 
-abbrev asked : (c : tie.After-early-refusal) → Told binary32 (wide_filter c.before.before.before.before.before.args.self) abandon
-asked c = record { told = _; is = tested_early binary32 _ nothing c.early-refusal.ensures (ap not c.before.before.is-shut.ensures) (c.before.is-sized.ensures ∙ sym (and_true _)) (λ h. refl) refl refl refl (λ h. none) refl (λ h. refl) }
+abbrev asked : (c : tie.After-early_refusal-refusal) → Told binary32 (wide_filter c.args.self) abandon
+asked c = record { told = _; is = tested_early binary32 _ nothing c.early_refusal-refusal.ensures (ap not c.is_shut-shut.ensures) (c.is_sized-sized.ensures ∙ sym (and_true _)) (λ h. refl) refl refl refl (λ h. none) refl (λ h. refl) }
 
-pub abandon-spec : {M : Type 1} → statement M
-abandon-spec =
+pub abandon_spec : {M : Type 1} → statement M
+abandon_spec =
     tie.close
     (tie.spec
     (λ c κs. search rules)
     (λ c κs. search rules)
     (λ c κs. search rules)
-    (λ c. turned_away (asked c.before.before) c.if1.true)
+    (λ c. turned_away (asked c.before.before) c.if-refusal-ne0.true)
     (λ c κs. search rules)
-    (λ c. has_finished (asked c.before.before.before) c.before.if1.false (ap (filter _) c.shut.ensures) refl))
+    (λ c. has_finished (asked c.before.before.before) c.if-refusal-ne0.false (ap (filter _) c.shut-track.ensures) refl))

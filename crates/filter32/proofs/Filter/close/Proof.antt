@@ -5,9 +5,9 @@ use Rattle.floats.specs.Numbers.{zeros}
 use Rattle.filter32.proofs.Filter.close.Statement.{statement}
 use Rattle.filter32.proofs.Filter.close.Tie as tie
 
-returns-2 : tie.Need-returns-2
+returns-2 : tie.Need-returns
 unfolding zeros of_bits
-returns-2 c = rw (eq-eqb _ _ c.before.before.before.before.if1.false)
+returns-2 c = rw (eq-eqb _ _ c.if-refusal-ne0.false)
 
 pub close_spec : {M : Type 1} → statement M
-close_spec = tie.close (tie.spec (λ c. rw (ne_eqb _ _ c.if1.true)) returns-2)
+close_spec = tie.close (tie.spec (λ c. rw (ne_eqb _ _ c.if-refusal-ne0.true)) returns-2)

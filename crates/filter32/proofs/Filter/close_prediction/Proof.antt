@@ -23,51 +23,51 @@ use Rattle.sigma32.specs.Wide.{wide_moments}
 use Rattle.filter32.proofs.Filter.close_prediction.Statement.{statement}
 use Rattle.filter32.proofs.Filter.close_prediction.Tie as tie
 
-abbrev start : tie.After-slice-refusal → tie.Start
+abbrev start : tie.After-slice_refusal-refusal → tie.Start
 start c = c.before.before.before.before.before.before
 
-abbrev asked : (c : tie.After-slice-refusal) → Told binary32 (wide_filter (start c).args.self) (closing (close_prediction (start c).args.points.now))
-asked c = record { told = _; is = slice_first binary32 Points _ c.slice-refusal.ensures c.before.before.is-predicting.ensures (λ h. c.before.point-numbers.ensures ∙ within_both _ _ _ h h) }
+abbrev asked : (c : tie.After-slice_refusal-refusal) → Told binary32 (wide_filter (start c).args.self) (closing (close_prediction (start c).args.points.now))
+asked c = record { told = _; is = slice_first binary32 Points _ c.slice_refusal-refusal.ensures c.is_predicting-predicting.ensures (λ h. c.point_numbers-k.ensures ∙ within_both _ _ _ h h) }
 
 -- 1 to 8 states, and the numbers of their points
-sized-at : (c : tie.Else1) → (start c.before.before).args.self.sheet.n ≤ 8
-sized-at c = sized_le binary32 (all_passed (asked c.before.before) c.if1.false)
+sized-at : (c : tie.Else-refusal-ne0) → (start c.before.before).args.self.sheet.n ≤ 8
+sized-at c = sized_le binary32 (all_passed (asked c.before.before) c.if-refusal-ne0.false)
 
-counted : (c : tie.Else1) → c.before.before.before.point-numbers.result ≡ point_numbers (start c.before.before).args.self.sheet.n
-counted c = c.before.before.before.point-numbers.ensures ∙ within_both _ _ _ (sized-at c) (sized-at c)
+counted : (c : tie.Else-refusal-ne0) → c.point_numbers-k.result ≡ point_numbers (start c.before.before).args.self.sheet.n
+counted c = c.point_numbers-k.ensures ∙ within_both _ _ _ (sized-at c) (sized-at c)
 
-points-requires : tie.Need-points-requires
-points-requires c κs = omega (arith, counted c, numbers_le _ _ (sized-at c) (sized-at c), long_le binary32 (all_passed (asked c.before.before) c.if1.false))
+points-requires : tie.Need-points-propagated-requires
+points-requires c κs = omega (arith, counted c, numbers_le _ _ (sized-at c) (sized-at c), long_le binary32 (all_passed (asked c.before.before) c.if-refusal-ne0.false))
 
-propagated-is : (c : tie.After-points) → let a = (start c.before.before.before).args in c.points.result ≡ propagated_of binary32 (wide_filter a.self) a.points.now
-propagated-is c = c.points.ensures ∙ ap (λ (j : ℕ). front j (start c.before.before.before).args.points.now (zeros 136)) (counted c.before)
+propagated-is : (c : tie.After-points-propagated) → let a = (start c.before.before.before).args in c.points-propagated.result ≡ propagated_of binary32 (wide_filter a.self) a.points.now
+propagated-is c = c.points-propagated.ensures ∙ ap (λ (j : ℕ). front j (start c.before.before.before).args.points.now (zeros 136)) (counted c.before)
 
 -- where the points were taken in
-abbrev went : tie.After-reconstruct-prediction → tie.After-points
+abbrev went : tie.After-reconstruct_prediction-made → tie.After-points-propagated
 went c = c.before.before.before.before.before.before.before.before.before
 
-made-is : (c : tie.After-reconstruct-prediction) → let a = (start (went c).before.before.before).args in wide_moments c.reconstruct-prediction.result ≡ moments (run (predicting binary32 (wide_filter a.self) a.points.now))
+made-is : (c : tie.After-reconstruct_prediction-made) → let a = (start (went c).before.before.before).args in wide_moments c.reconstruct_prediction-made.result ≡ moments (run (predicting binary32 (wide_filter a.self) a.points.now))
 made-is c =
     let s = wide_filter (start (went c).before.before.before).args.self in
-    c.reconstruct-prediction.ensures ∙ ap₂ (λ (v : List Float) (w : Float). moments (predict_of binary32 s.sheet.n v w s.track.drawn_weights s.sheet.kinds s.sheet.q)) (propagated-is (went c)) c.before.before.before.before.before.before.before.center-weight.ensures
+    c.reconstruct_prediction-made.ensures ∙ ap₂ (λ (v : List Float) (w : Float). moments (predict_of binary32 s.sheet.n v w s.track.drawn_weights s.sheet.kinds s.sheet.q)) (propagated-is (went c)) c.center_weight-w0m.ensures
 
-returns-2 : tie.Need-returns-2
+returns-2 : tie.Need-returns
 returns-2 c =
     let d = (went c.before).before in
     let a = (start d.before.before).args in
     let t = asked d.before.before in
-    let z = d.if1.left in
+    let z = d.if-refusal-ne0.false in
     closes_so t z (propagated_of binary32 (wide_filter a.self) a.points.now) false (predicting binary32 (wide_filter a.self) a.points.now) (predicting_is binary32 (wide_filter a.self) a.points.now (all_passed t z).fits) (made-is c.before)
-    (c.close.ensures ∙ ap (λ (u : List Float). closed_by (wide_filter a.self) u false (wide_moments c.before.reconstruct-prediction.result)) (propagated-is (went c.before)))
+    (c.close.ensures ∙ ap (λ (u : List Float). closed_by (wide_filter a.self) u false (wide_moments c.reconstruct_prediction-made.result)) (propagated-is (went c.before)))
 
-pub close-prediction-spec : {M : Type 1} → statement M
-close-prediction-spec =
+pub close_prediction_spec : {M : Type 1} → statement M
+close_prediction_spec =
     tie.close
     (tie.spec
     (λ c κs. search rules)
     (λ c κs. search rules)
     (λ c κs. search rules)
-    (λ c. turned_away (asked c.before.before) c.if1.true)
+    (λ c. turned_away (asked c.before.before) c.if-refusal-ne0.true)
     points-requires
     (λ c κs. sized-at c.before.before)
     (λ c κs. sized-at c.before.before.before.before.before.before.before.before.before)

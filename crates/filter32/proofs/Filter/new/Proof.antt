@@ -30,33 +30,33 @@ abbrev ofSheet : NewSheet → Verdict
 ofSheet t = t.refusal
 
 -- where both parts are made
-abbrev parts : tie.After-sooner → tie.After-new2
+abbrev parts : tie.After-sooner-refusal → tie.After-new-b
 parts c = c.before.before.before
 
-abbrev start : tie.After-sooner → tie.Start
+abbrev start : tie.After-sooner-refusal → tie.Start
 start c = (parts c).before.before.before.before.before
 
-abbrev asked : (c : tie.After-sooner) → let a = (start c).args in Gives binary32 (new_asks a.n (from a.x.now a.p.now ∷ []) a.q.now (wide_params a.params))
+abbrev asked : (c : tie.After-sooner-refusal) → let a = (start c).args in Gives binary32 (new_asks a.n (from a.x.now a.p.now ∷ []) a.q.now (wide_params a.params))
 asked c = record {
   told = _;
-  is = c.sooner.ensures ∙ start_told binary32 _ _ [] _ _ (ap ofTrack (parts c).before.new.ensures) (ap ofSheet (parts c).new2.ensures ∙ sheet_told binary32 _ _ _);
+  is = c.sooner-refusal.ensures ∙ start_told binary32 _ _ [] _ _ (ap ofTrack (parts c).new-a.ensures) (ap ofSheet (parts c).new-b.ensures ∙ sheet_told binary32 _ _ _);
 }
 
-returns : tie.Need-returns
+returns : tie.Need-returns-then-refusal-ne0
 unfolding new_of
 returns c =
     let d = c.before.before.before in
-    let q = new_stopped binary32 _ (made (start d)) empty (asked d).is c.before.if1.true in
+    let q = new_stopped binary32 _ (made (start d)) empty (asked d).is c.if-refusal-ne0.true in
     c.refused.ensures ∙ ap₂ answer q.0 q.1
 
-returns-2 : tie.Need-returns-2
+returns-2 : tie.Need-returns
 unfolding new_of
 returns-2 c =
     let d = c.before.before.before.before in
-    let z = c.before.before.if1.false in
-    let y = none_sooner _ _ (sym (number_of d.sooner.ensures) ∙ z) in
-    let b = (parts d).new2.ensures in
-    let a = (parts d).before.new.ensures in
+    let z = c.if-refusal-ne0.false in
+    let y = none_sooner _ _ (sym (number_of d.sooner-refusal.ensures) ∙ z) in
+    let b = (parts d).new-b.ensures in
+    let a = (parts d).new-a.ensures in
     let q = new_made binary32 _ (made (start d)) empty (asked d).is z in
     ap₂ answer
     (ap₂ filter

@@ -12,16 +12,16 @@ use Rattle.filter32.specs.Wide.{wide_filter}
 use Rattle.filter32.proofs.Filter.read_p.Statement.{statement}
 use Rattle.filter32.proofs.Filter.read_p.Tie as tie
 
-slice-aggregate-read : tie.Need-slice-aggregate-read
+slice-aggregate-read : tie.Need-slice_bounds-read-end
 slice-aggregate-read c = search rules
 
 read-requires : tie.Need-read-requires
-read-requires c κs = λ h. omega (arith, slice-aggregate-read c.before, square_le _ h, c.before.before.before.square.ensures ∙ within_8 _ _ h)
+read-requires c κs = λ h. omega (arith, slice-aggregate-read c.before, square_le _ h, c.square-k.ensures ∙ within_8 _ _ h)
 
 returns : tie.Need-returns
 returns c =
     let s = c.before.before.before.before.before.before.before.before in
-    has_read binary32 (wide_filter s.args.self) (reading (read_p s.args.out.now)) (s.args.self.sheet.n * s.args.self.sheet.n) false s.args.out.now s.args.self.track.p s.args.self.track.p refl refl (λ z. refl) (λ h. c.before.before.before.before.before.before.square.ensures ∙ within_8 _ _ h) c.before.before.read.ensures
+    has_read binary32 (wide_filter s.args.self) (reading (read_p s.args.out.now)) (s.args.self.sheet.n * s.args.self.sheet.n) false s.args.out.now s.args.self.track.p s.args.self.track.p refl refl (λ z. refl) (λ h. c.square-k.ensures ∙ within_8 _ _ h) c.read.ensures
 
-pub read-p-spec : {M : Type 1} → statement M
-read-p-spec = tie.close (tie.spec (λ c κs. search rules) slice-aggregate-read read-requires (λ c. search rules) returns)
+pub read_p_spec : {M : Type 1} → statement M
+read_p_spec = tie.close (tie.spec (λ c κs. search rules) slice-aggregate-read read-requires (λ c. search rules) returns)

@@ -10,7 +10,7 @@ use Rattle.filter32.specs.Wide.{wide_filter}
 use Rattle.filter32.proofs.Filter.read_x.Statement.{statement}
 use Rattle.filter32.proofs.Filter.read_x.Tie as tie
 
-slice-aggregate-read : tie.Need-slice-aggregate-read
+slice-aggregate-read : tie.Need-slice_bounds-read-end
 slice-aggregate-read c = search rules
 
 read-requires : tie.Need-read-requires
@@ -19,7 +19,7 @@ read-requires c κs = λ h. omega (arith, slice-aggregate-read c.before)
 returns : tie.Need-returns
 returns c =
     let s = c.before.before.before.before.before.before.before in
-    has_read binary32 (wide_filter s.args.self) (reading (read_x s.args.out.now)) s.args.self.sheet.n false s.args.out.now s.args.self.track.x s.args.self.track.x refl refl (λ z. refl) (λ h. refl) c.before.before.read.ensures
+    has_read binary32 (wide_filter s.args.self) (reading (read_x s.args.out.now)) s.args.self.sheet.n false s.args.out.now s.args.self.track.x s.args.self.track.x refl refl (λ z. refl) (λ h. refl) c.read.ensures
 
-pub read-x-spec : {M : Type 1} → statement M
-read-x-spec = tie.close (tie.spec slice-aggregate-read read-requires (λ c. search rules) returns)
+pub read_x_spec : {M : Type 1} → statement M
+read_x_spec = tie.close (tie.spec slice-aggregate-read read-requires (λ c. search rules) returns)

@@ -18,21 +18,21 @@ use Rattle.sigma32.specs.Wide.{wide_params}
 use Rattle.filter32.proofs.Filter.set_params.Statement.{statement}
 use Rattle.filter32.proofs.Filter.set_params.Tie as tie
 
-abbrev start : tie.After-first-refusal → tie.Start
+abbrev start : tie.After-first_refusal-refusal → tie.Start
 start c = c.before.before.before.before.before.before.before.before.before
 
-abbrev asked : (c : tie.After-first-refusal) → Told binary32 (wide_filter (start c).args.self) (writing (set_params (wide_params (start c).args.params)))
+abbrev asked : (c : tie.After-first_refusal-refusal) → Told binary32 (wide_filter (start c).args.self) (writing (set_params (wide_params (start c).args.params)))
 asked c =
     let s = c.before.before.before.before.before in record {
       told = _;
       is =
-          tested binary32 _ _ c.first-refusal.ensures (c.before.before.first-bad.ensures ∙ ap (λ (v : List Float). refusal (searched (input Lone (take 3 v)))) c.before.before.before.before.values.ensures)
-          s.before.is-shut.ensures (s.is-sized.ensures ∙ sym (and_true _)) (λ h. refl) refl refl refl (λ h. refl) refl
-          (λ h. c.before.params-pass.ensures ∙ passing_8 _ _ (states_le _ [] h));
+          tested binary32 _ _ c.first_refusal-refusal.ensures (c.first_bad-found.ensures ∙ ap (λ (v : List Float). refusal (searched (input Lone (take 3 v)))) c.values-values.ensures)
+          s.is_shut-shut.ensures (s.is_sized-sized.ensures ∙ sym (and_true _)) (λ h. refl) refl refl refl (λ h. refl) refl
+          (λ h. c.params_pass-passing.ensures ∙ passing_8 _ _ (states_le _ [] h));
     }
 
-pub set-params-spec : {M : Type 1} → statement M
-set-params-spec =
+pub set_params_spec : {M : Type 1} → statement M
+set_params_spec =
     tie.close
     (tie.spec
     (λ c κs. search rules)
@@ -42,5 +42,5 @@ set-params-spec =
     (λ c κs. search rules)
     (λ c κs. search rules)
     (λ c κs. search rules)
-    (λ c. turned_away (asked c.before.before) c.if1.true)
-    (λ c. has_finished (asked c.before.before) c.if1.false refl refl))
+    (λ c. turned_away (asked c.before.before) c.if-refusal-ne0.true)
+    (λ c. has_finished (asked c.before.before) c.if-refusal-ne0.false refl refl))

@@ -12,21 +12,21 @@ use Rattle.filter32.specs.Wide.{wide_filter}
 use Rattle.filter32.proofs.Filter.set_x.Statement.{statement}
 use Rattle.filter32.proofs.Filter.set_x.Tie as tie
 
-abbrev start : tie.After-slice-refusal → tie.Start
+abbrev start : tie.After-slice_refusal-refusal → tie.Start
 start c = c.before.before.before.before.before
 
-abbrev asked : (c : tie.After-slice-refusal) → Told binary32 (wide_filter (start c).args.self) (setting (set_x (start c).args.src.now))
-asked c = record { told = _; is = slice_first binary32 State _ c.slice-refusal.ensures c.before.is-shut.ensures (λ h. refl) }
+abbrev asked : (c : tie.After-slice_refusal-refusal) → Told binary32 (wide_filter (start c).args.self) (setting (set_x (start c).args.src.now))
+asked c = record { told = _; is = slice_first binary32 State _ c.slice_refusal-refusal.ensures c.is_shut-shut.ensures (λ h. refl) }
 
-vector-requires : tie.Need-vector-requires
-vector-requires c κs = let p = all_passed (asked c.before.before) c.if1.false in omega (arith, sized_le binary32 p, long_le binary32 p)
+vector-requires : tie.Need-vector-x-requires
+vector-requires c κs = let p = all_passed (asked c.before.before) c.if-refusal-ne0.false in omega (arith, sized_le binary32 p, long_le binary32 p)
 
-pub set-x-spec : {M : Type 1} → statement M
-set-x-spec =
+pub set_x_spec : {M : Type 1} → statement M
+set_x_spec =
     tie.close
     (tie.spec
     (λ c κs. search rules)
     (λ c κs. search rules)
-    (λ c. turned_away (asked c.before.before) c.if1.true)
+    (λ c. turned_away (asked c.before.before) c.if-refusal-ne0.true)
     vector-requires
-    (λ c. has_set (asked c.before.before.before) c.before.if1.false (λ v. sets (x_set v)) c.vector.ensures refl))
+    (λ c. has_set (asked c.before.before.before) c.if-refusal-ne0.false (λ v. sets (x_set v)) c.vector-x.ensures refl))

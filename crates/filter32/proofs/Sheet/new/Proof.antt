@@ -35,57 +35,57 @@ abbrev answer : Verdict → Sheet → NewSheet
 answer r s = record { refusal = r; sheet = s }
 
 -- where the numbers of a matrix are counted
-abbrev counts : tie.After-first-refusal → tie.After-square
+abbrev counts : tie.After-first_refusal-refusal → tie.After-square-k
 counts c = c.before.before.before.before.before.before.before
 
-abbrev start : tie.After-first-refusal → tie.Start
+abbrev start : tie.After-first_refusal-refusal → tie.Start
 start c = (counts c).before.before
 
-squared : (c : tie.After-first-refusal) → (start c).args.n ≤ 8 → (counts c).square.result ≡ (start c).args.n * (start c).args.n
-squared c h = (counts c).square.ensures ∙ within_8 _ _ h
+squared : (c : tie.After-first_refusal-refusal) → (start c).args.n ≤ 8 → (counts c).square-k.result ≡ (start c).args.n * (start c).args.n
+squared c h = (counts c).square-k.ensures ∙ within_8 _ _ h
 
-abbrev asked : (c : tie.After-first-refusal) → Gives binary32 (asks (start c))
+abbrev asked : (c : tie.After-first_refusal-refusal) → Gives binary32 (asks (start c))
 asked c =
     let a = (start c).args in
     let d = c.before.before.before.before in
-    let in-noise : Found _ _ = record { is = d.first-bad.ensures } in
-    let found = (found_next in-noise Lone _ c.before.before.next-bad.ensures).is ∙ ap (λ (v : List Float). refusal (searched (input Noise (take (counts c).square.result a.q.now) ++ input Lone (take 3 v)))) d.before.values.ensures in record {
+    let in-noise : Found _ _ = record { is = d.first_bad-in_noise.ensures } in
+    let found = (found_next in-noise Lone _ c.next_bad-found.ensures).is ∙ ap (λ (v : List Float). refusal (searched (input Noise (take (counts c).square-k.result a.q.now) ++ input Lone (take 3 v)))) d.values-values.ensures in record {
       told = _;
       is =
-          tested binary32 _ _ c.first-refusal.ensures found refl (d.before.before.is-sized.ensures ∙ sym (and_true _))
+          tested binary32 _ _ c.first_refusal-refusal.ensures found refl (d.is_sized-sized.ensures ∙ sym (and_true _))
           (λ h. ap (λ (j : ℕ). leb j (length a.q.now)) (squared c (states_le _ [] h)) ∙ sym (and_true _))
           refl refl refl
           (λ h. ap (λ (j : ℕ). searched (input Noise (take j a.q.now) ++ input Lone (values_of (wide_params a.params)))) (squared c (states_le _ [] h)))
           refl
-          (λ h. c.before.params-pass.ensures ∙ passing_8 _ _ (states_le _ [] h));
+          (λ h. c.params_pass-passing.ensures ∙ passing_8 _ _ (states_le _ [] h));
     }
 
-returns : tie.Need-returns
+returns : tie.Need-returns-then-refusal-ne0
 unfolding new_sheet_of
 returns c =
     let d = c.before.before.before in
     let a = (start d).args in
-    let q = new_stopped binary32 _ (sheet_from a.n a.q.now (wide_params a.params)) empty_sheet (asked d).is c.before.if1.true in
-    ap₂ answer q.1 (c.empty-sheet.ensures ∙ q.0)
+    let q = new_stopped binary32 _ (sheet_from a.n a.q.now (wide_params a.params)) empty_sheet (asked d).is c.if-refusal-ne0.true in
+    ap₂ answer q.1 (c.empty_sheet-sheet.ensures ∙ q.0)
 
-all_passed : (c : tie.Else1) → Passed binary32 (asks (start c.before.before))
-all_passed c = passed binary32 _ (sym (number_of (asked c.before.before).is) ∙ c.if1.false)
+all_passed : (c : tie.Else-refusal-ne0) → Passed binary32 (asks (start c.before.before))
+all_passed c = passed binary32 _ (sym (number_of (asked c.before.before).is) ∙ c.if-refusal-ne0.false)
 
-matrix-requires : tie.Need-matrix-requires
+matrix-requires : tie.Need-matrix-q-requires
 matrix-requires c κs =
     let p = all_passed c in
     let h = sized_le binary32 p in
     omega (arith, squared c.before.before h, square_le _ h, long_le binary32 p)
 
-returns-2 : tie.Need-returns-2
+returns-2 : tie.Need-returns
 unfolding new_sheet_of
 returns-2 c =
     let d = c.before.before in
     let k = d.before.before in
     let a = (start k).args in
-    let q = new_made binary32 _ (sheet_from a.n a.q.now (wide_params a.params)) empty_sheet (asked k).is d.if1.false in
+    let q = new_made binary32 _ (sheet_from a.n a.q.now (wide_params a.params)) empty_sheet (asked k).is d.if-refusal-ne0.false in
     ap₂ answer q.1
-    (c.fresh-sheet.ensures ∙ ap (λ (v : List Float). fresh_sheet a.n v (wide_params a.params)) (c.before.matrix.ensures ∙ ap (λ (j : ℕ). front j a.q.now (zeros 64)) (squared k (sized_le binary32 (all_passed d)))) ∙ q.0)
+    (c.fresh_sheet-sheet.ensures ∙ ap (λ (v : List Float). fresh_sheet a.n v (wide_params a.params)) (c.matrix-q.ensures ∙ ap (λ (j : ℕ). front j a.q.now (zeros 64)) (squared k (sized_le binary32 (all_passed d)))) ∙ q.0)
 
 pub new_spec : {M : Type 1} → statement M
 new_spec =

@@ -33,57 +33,57 @@ abbrev answer : Verdict → Track → NewTrack
 answer r t = record { refusal = r; track = t }
 
 -- where the numbers of a matrix are counted
-abbrev counts : tie.After-first-refusal → tie.After-square
+abbrev counts : tie.After-first_refusal-refusal → tie.After-square-k
 counts c = c.before.before.before.before.before
 
-abbrev start : tie.After-first-refusal → tie.Start
+abbrev start : tie.After-first_refusal-refusal → tie.Start
 start c = (counts c).before.before.before
 
-squared : (c : tie.After-first-refusal) → (start c).args.n ≤ 8 → (counts c).square.result ≡ (start c).args.n * (start c).args.n
-squared c h = (counts c).square.ensures ∙ within_8 _ _ h
+squared : (c : tie.After-first_refusal-refusal) → (start c).args.n ≤ 8 → (counts c).square-k.result ≡ (start c).args.n * (start c).args.n
+squared c h = (counts c).square-k.ensures ∙ within_8 _ _ h
 
-abbrev asked : (c : tie.After-first-refusal) → Gives binary32 (asks (start c))
+abbrev asked : (c : tie.After-first_refusal-refusal) → Gives binary32 (asks (start c))
 asked c =
     let a = (start c).args in
-    let in-state : Found _ _ = record { is = c.before.before.first-bad.ensures } in record {
+    let in-state : Found _ _ = record { is = c.first_bad-in_state.ensures } in record {
       told = _;
       is =
-          tested binary32 _ _ c.first-refusal.ensures (found_next in-state Covariance _ c.before.next-bad.ensures).is refl (c.before.before.before.before.is-sized.ensures ∙ sym (and_true _))
-          (λ h. c.before.before.before.both.ensures ∙ ap (λ (j : ℕ). leb a.n (length a.x.now) && leb j (length a.p.now)) (squared c (states_le _ [] h)) ∙ ap (λ (t : Bool). leb a.n (length a.x.now) && t) (sym (and_true _)))
+          tested binary32 _ _ c.first_refusal-refusal.ensures (found_next in-state Covariance _ c.next_bad-found.ensures).is refl (c.is_sized-sized.ensures ∙ sym (and_true _))
+          (λ h. c.both-long.ensures ∙ ap (λ (j : ℕ). leb a.n (length a.x.now) && leb j (length a.p.now)) (squared c (states_le _ [] h)) ∙ ap (λ (t : Bool). leb a.n (length a.x.now) && t) (sym (and_true _)))
           refl refl refl
           (λ h. ap (λ (j : ℕ). searched (input State (take a.n a.x.now) ++ input Covariance (take j a.p.now))) (squared c (states_le _ [] h)))
           refl (λ h. refl);
     }
 
-returns : tie.Need-returns
+returns : tie.Need-returns-then-refusal-ne0
 unfolding new_track_of
 returns c =
     let d = c.before.before.before in
     let a = (start d).args in
-    let q = new_stopped binary32 _ (track_from a.n (from a.x.now a.p.now)) empty_track (asked d).is c.before.if1.true in
-    ap₂ answer q.1 (c.empty-track.ensures ∙ q.0)
+    let q = new_stopped binary32 _ (track_from a.n (from a.x.now a.p.now)) empty_track (asked d).is c.if-refusal-ne0.true in
+    ap₂ answer q.1 (c.empty_track-track.ensures ∙ q.0)
 
-all_passed : (c : tie.Else1) → Passed binary32 (asks (start c.before.before))
-all_passed c = passed binary32 _ (sym (number_of (asked c.before.before).is) ∙ c.if1.false)
+all_passed : (c : tie.Else-refusal-ne0) → Passed binary32 (asks (start c.before.before))
+all_passed c = passed binary32 _ (sym (number_of (asked c.before.before).is) ∙ c.if-refusal-ne0.false)
 
-vector-requires : tie.Need-vector-requires
+vector-requires : tie.Need-vector-x-requires
 vector-requires c κs = let p = all_passed c in (long_le binary32 p, sized_le binary32 p)
 
-matrix-requires : tie.Need-matrix-requires
+matrix-requires : tie.Need-matrix-p-requires
 matrix-requires c κs =
     let p = all_passed c.before in
     let h = sized_le binary32 p in
     omega (arith, squared c.before.before.before h, square_le _ h, two_long binary32 p)
 
-returns-2 : tie.Need-returns-2
+returns-2 : tie.Need-returns
 unfolding new_track_of
 returns-2 c =
     let d = c.before.before.before in
     let k = d.before.before in
     let a = (start k).args in
-    let q = new_made binary32 _ (track_from a.n (from a.x.now a.p.now)) empty_track (asked k).is d.if1.false in
-    let p = c.before.matrix.ensures ∙ ap (λ (j : ℕ). front j a.p.now (zeros 64)) (squared k (sized_le binary32 (all_passed d))) in
-    ap₂ answer q.1 (c.fresh-track.ensures ∙ ap₂ (λ (u v : List Float). fresh_track u v) c.before.before.vector.ensures p ∙ q.0)
+    let q = new_made binary32 _ (track_from a.n (from a.x.now a.p.now)) empty_track (asked k).is d.if-refusal-ne0.false in
+    let p = c.matrix-p.ensures ∙ ap (λ (j : ℕ). front j a.p.now (zeros 64)) (squared k (sized_le binary32 (all_passed d))) in
+    ap₂ answer q.1 (c.fresh_track-track.ensures ∙ ap₂ (λ (u v : List Float). fresh_track u v) c.vector-x.ensures p ∙ q.0)
 
 pub new_spec : {M : Type 1} → statement M
 new_spec =

@@ -7,7 +7,7 @@ use Rattle.filter32.proofs.new.empty_sheet.Tie as tie
 
 returns : tie.Need-returns
 unfolding zeros of_bits
-returns c = c.fresh-sheet.ensures
+returns c = c.fresh_sheet.ensures
 
-pub empty-sheet-spec : {M : Type 1} → statement M
-empty-sheet-spec = tie.close (tie.spec (λ c κs. search rules) returns)
+pub empty_sheet_spec : {M : Type 1} → statement M
+empty_sheet_spec = tie.close (tie.spec (λ c κs. search rules) returns)

@@ -7,7 +7,7 @@ use Rattle.filter32.proofs.new.empty_track.Tie as tie
 
 returns : tie.Need-returns
 unfolding zeros of_bits
-returns c = c.fresh-track.ensures
+returns c = c.fresh_track.ensures
 
-pub empty-track-spec : {M : Type 1} → statement M
-empty-track-spec = tie.close (tie.spec (λ c κs. search rules) returns)
+pub empty_track_spec : {M : Type 1} → statement M
+empty_track_spec = tie.close (tie.spec (λ c κs. search rules) returns)

@@ -4,6 +4,6 @@ use Rattle.angles32.specs.Wide.{wide_kinds}
 use Rattle.filter32.proofs.new.fresh_sheet.Statement.{statement}
 use Rattle.filter32.proofs.new.fresh_sheet.Tie as tie
 
-pub fresh-sheet-spec : {M : Type 1} → statement M
+pub fresh_sheet_spec : {M : Type 1} → statement M
 unfolding wide_kinds
-fresh-sheet-spec = tie.close (tie.spec (λ c. refl))
+fresh_sheet_spec = tie.close (tie.spec (λ c. refl))

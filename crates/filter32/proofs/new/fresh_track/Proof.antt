@@ -9,5 +9,5 @@ returns : tie.Need-returns
 unfolding zeros of_bits
 returns c = refl
 
-pub fresh-track-spec : {M : Type 1} → statement M
-fresh-track-spec = tie.close (tie.spec returns)
+pub fresh_track_spec : {M : Type 1} → statement M
+fresh_track_spec = tie.close (tie.spec returns)

@@ -8,7 +8,7 @@ use Rattle.filter32.proofs.new.refused.Statement.{statement}
 use Rattle.filter32.proofs.new.refused.Tie as tie
 
 returns : tie.Need-returns
-returns c = ap₂ (λ (s : Sheet) (t : Track). record { filter = filter s t; refusal = c.before.before.args.refusal }) c.before.empty-sheet.ensures c.empty-track.ensures
+returns c = ap₂ (λ (s : Sheet) (t : Track). record { filter = filter s t; refusal = c.args.refusal }) c.empty_sheet-sheet.ensures c.empty_track-track.ensures
 
-pub refused-spec : {M : Type 1} → statement M
-refused-spec = tie.close (tie.spec (λ c κs. search rules) (λ c κs. search rules) returns)
+pub refused_spec : {M : Type 1} → statement M
+refused_spec = tie.close (tie.spec (λ c κs. search rules) (λ c κs. search rules) returns)

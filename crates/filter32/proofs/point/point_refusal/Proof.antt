@@ -19,12 +19,12 @@ use Rattle.filter32.proofs.point.point_refusal.Tie as tie
 returns : tie.Need-returns
 returns c =
     let b = c.before.before in
-    let a = b.before.before.before.before.args in
-    tested_early binary32 (point_asks binary32 a.list.now a.n a.k) nothing c.early-refusal.ensures refl
-    (b.both.ensures ∙ ap₂ (λ (x : Bool) (l : ℕ). x && leb a.k l) b.before.before.is-sized.ensures b.before.last-point.ensures ∙ point_in a.k a.n)
-    (λ h. ap (λ (j : ℕ). leb j (length a.list.now)) (c.before.point-numbers.ensures ∙ within_both _ _ _ (states_le _ (sized a.k 0 (a.n + a.n)) h) (states_le _ (sized a.k 0 (a.n + a.n)) h)) ∙ sym (and_true _))
+    let a = b.args in
+    tested_early binary32 (point_asks binary32 a.list.now a.n a.k) nothing c.early_refusal.ensures refl
+    (b.both-sized.ensures ∙ ap₂ (λ (x : Bool) (l : ℕ). x && leb a.k l) b.is_sized-states.ensures b.last_point-last.ensures ∙ point_in a.k a.n)
+    (λ h. ap (λ (j : ℕ). leb j (length a.list.now)) (c.point_numbers-numbers.ensures ∙ within_both _ _ _ (states_le _ (sized a.k 0 (a.n + a.n)) h) (states_le _ (sized a.k 0 (a.n + a.n)) h)) ∙ sym (and_true _))
     refl refl refl (λ h. none) refl (λ h. refl)
     ∙ first binary32 a.list.now a.n a.k
 
-pub point-refusal-spec : {M : Type 1} → statement M
-point-refusal-spec = tie.close (tie.spec (λ c κs. search rules) (λ c κs. search rules) (λ c κs. search rules) (λ c κs. search rules) (λ c κs. search rules) returns)
+pub point_refusal_spec : {M : Type 1} → statement M
+point_refusal_spec = tie.close (tie.spec (λ c κs. search rules) (λ c κs. search rules) (λ c κs. search rules) (λ c κs. search rules) (λ c κs. search rules) returns)

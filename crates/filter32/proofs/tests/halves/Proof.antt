@@ -15,10 +15,10 @@ returns : tie.Need-returns
 unfolding wide_kinds
 returns c =
     let s = c.before.before.before.before.before.before in
-    rw (s.half_of_lem.ensures, c.before.before.before.before.half-of2.ensures, c.before.before.half-of3.ensures, c.half-of4.ensures) (ap (λ (l : List Kind). halves (wide_kinds l)) (four s.before.before.args.t1 plain (omega arith)))
+    rw (s.half_of-a.ensures, c.half_of-b.ensures, c.half_of-c.ensures, c.half_of-d.ensures) (ap (λ (l : List Kind). halves (wide_kinds l)) (four s.args.kinds plain (omega arith)))
 
-pub halves-spec : {M : Type 1} → statement M
-halves-spec =
+pub halves_spec : {M : Type 1} → statement M
+halves_spec =
     tie.close
     (tie.spec
     (λ c. search rules)

@@ -14,34 +14,34 @@ use Rattle.angles32.specs.Wide.{wide_kinds}
 use Rattle.filter32.proofs.tests.kinds_pass.Statement.{statement}
 use Rattle.filter32.proofs.tests.kinds_pass.Tie as tie
 
-abbrev invariant-loop : tie.invariant-loop
-invariant-loop m kinds i₀ i = (i ≤ m) × Passed (passing binary32) (wide_kinds kinds) i
+abbrev invariant-loop-i : tie.invariant-loop-i
+invariant-loop-i m kinds i₀ i = (i ≤ m) × Passed (passing binary32) (wide_kinds kinds) i
 
-abbrev decreases-loop : tie.decreases-loop
-decreases-loop m kinds i₀ i = m - i
+abbrev decreases-loop-i : tie.decreases-loop-i
+decreases-loop-i m kinds i₀ i = m - i
 
-returns : tie.Need-returns invariant-loop decreases-loop
-returns c = passed_over c.before.before.loop.invariant.1 c.before.before.before.args.m (omega (arith, kinds_long c.before.before.before.args.t2)) (omega arith)
+returns : tie.Need-returns-then-i-ge4 invariant-loop-i decreases-loop-i
+returns c = passed_over c.loop-i.invariant.1 c.args.m (omega (arith, kinds_long c.args.kinds)) (omega arith)
 
-returns-2 : tie.Need-returns-2 invariant-loop decreases-loop
+returns-2 : tie.Need-returns-then-not-kind_passes invariant-loop-i decreases-loop-i
 returns-2 c =
     let l = c.before.before.before.before.before in
-    passed_bad l.loop.invariant.1 l.before.args.m plain (omega (arith, kinds_long l.before.args.t2)) (omega arith) (rw kind_at (sym c.before.kind-passes.ensures ∙ not-true _ c.if2.true))
+    passed_bad l.loop-i.invariant.1 l.args.m plain (omega (arith, kinds_long l.args.kinds)) (omega arith) (rw kind_at (sym c.kind_passes.ensures ∙ not-true _ c.if-not-kind_passes.true-raw))
 
-loop-again : tie.Need-loop-preserved invariant-loop decreases-loop
+loop-again : tie.Need-loop-i-preserved invariant-loop-i decreases-loop-i
 loop-again c =
     let l = c.before.before.before.before.before in
-    (omega arith, passed_more l.loop.invariant.1 plain (omega (arith, kinds_long l.before.args.t2)) (rw kind_at (sym c.before.kind-passes.ensures ∙ not-false _ c.if2.false)))
+    (omega arith, passed_more l.loop-i.invariant.1 plain (omega (arith, kinds_long l.args.kinds)) (rw kind_at (sym c.kind_passes.ensures ∙ not-false _ c.if-not-kind_passes.false-raw)))
 
-returns-3 : tie.Need-returns-3 invariant-loop decreases-loop
-returns-3 c = passed_end c.before.loop.invariant.1 c.before.before.args.m (omega arith)
+returns-3 : tie.Need-returns invariant-loop-i decreases-loop-i
+returns-3 c = passed_end c.loop-i.invariant.1 c.args.m (omega arith)
 
-pub kinds-pass-spec : {M : Type 1} → statement M
-kinds-pass-spec =
+pub kinds_pass_spec : {M : Type 1} → statement M
+kinds_pass_spec =
     tie.close
     (tie.spec
-    invariant-loop
-    decreases-loop
+    invariant-loop-i
+    decreases-loop-i
     (λ c. (omega arith, passed_none))
     returns
     (λ c. omega arith)

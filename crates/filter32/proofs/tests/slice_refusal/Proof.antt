@@ -8,7 +8,7 @@ use Rattle.filter32.proofs.tests.slice_refusal.Statement.{statement}
 use Rattle.filter32.proofs.tests.slice_refusal.Tie as tie
 
 returns : tie.Need-returns
-returns c = tested binary32 _ _ c.first-refusal.ensures c.before.first-bad.ensures refl (c.before.before.is-sized.ensures ∙ sym (and_true _)) (λ s. sym (and_true _)) refl refl refl (λ s. refl) refl (λ s. refl)
+returns c = tested binary32 _ _ c.first_refusal.ensures c.first_bad-found.ensures refl (c.is_sized-sized.ensures ∙ sym (and_true _)) (λ s. sym (and_true _)) refl refl refl (λ s. refl) refl (λ s. refl)
 
-pub slice-refusal-spec : {M : Type 1} → statement M
-slice-refusal-spec = tie.close (tie.spec (λ c κs. search rules) (λ c κs. search rules) (λ c κs. search rules) returns)
+pub slice_refusal_spec : {M : Type 1} → statement M
+slice_refusal_spec = tie.close (tie.spec (λ c κs. search rules) (λ c κs. search rules) (λ c κs. search rules) returns)

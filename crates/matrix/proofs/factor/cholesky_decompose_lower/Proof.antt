@@ -42,13 +42,13 @@ ended : (c : tie.Left-columns invariant-rows decreases-rows invariant-columns de
 ended c =
     let inv = c.columns.invariant in
     elim c.columns-test.branch [
-      else-columns-test w ↦ inl (w.refusal-is ∙ inv.1, columns_end inv.2 w.columns-test.false ∙ ap accepted (sym w.l-is))
-    | then-columns-test+then-not-is_above_zero w ↦
-        inr (_, w.refusal-is ∙ w.refused_by-refusal.ensures, column_stops inv.2 w.columns-test.true w.row-s.ensures.0 w.less-pivot.ensures (sym w.is_above_zero.ensures ∙ not-true _ w.if-not-is_above_zero.true-raw))
-    | then-columns-test+else-not-is_above_zero+in_default w ↦
-        absurd (above_never binary64 _ w.square_root.ensures (sym w.is_above_zero.ensures ∙ not-false _ w.if-not-is_above_zero.false-raw) (rw w.in_default.is))
-    | then-columns-test+else-not-is_above_zero+in-Value+then-rows-test+then-not-is_finite w ↦
-        inr (RANGE, w.refusal-is ∙ w.placeless-refusal-then-not-is_finite.ensures, row_stops w.rows.invariant.2 w.rows-test.true w.row-r.ensures.0 w.row-s.ensures.0 w.less.ensures (sym w.is_finite.ensures ∙ not-true _ w.if-not-is_finite.true-raw))
+      | else-columns-test w ↦ inl (w.refusal-is ∙ inv.1, columns_end inv.2 w.columns-test.false ∙ ap accepted (sym w.l-is))
+      | then-columns-test+then-not-is_above_zero w ↦
+          inr (_, w.refusal-is ∙ w.refused_by-refusal.ensures, column_stops inv.2 w.columns-test.true w.row-s.ensures.0 w.less-pivot.ensures (sym w.is_above_zero.ensures ∙ not-true _ w.if-not-is_above_zero.true-raw))
+      | then-columns-test+else-not-is_above_zero+in_default w ↦
+          absurd (above_never binary64 _ w.square_root.ensures (sym w.is_above_zero.ensures ∙ not-false _ w.if-not-is_above_zero.false-raw) (rw w.in_default.is))
+      | then-columns-test+else-not-is_above_zero+in-Value+then-rows-test+then-not-is_finite w ↦
+          inr (RANGE, w.refusal-is ∙ w.placeless-refusal-then-not-is_finite.ensures, row_stops w.rows.invariant.2 w.rows-test.true w.row-r.ensures.0 w.row-s.ensures.0 w.less.ensures (sym w.is_finite.ensures ∙ not-true _ w.if-not-is_finite.true-raw))
     ]
 
 columns-holds : tie.Need-columns-init invariant-rows decreases-rows invariant-columns decreases-columns

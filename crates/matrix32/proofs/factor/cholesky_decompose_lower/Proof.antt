@@ -17,6 +17,7 @@ use Rattle.floats.proofs.Refusals.{number_above}
 use Rattle.matrix.proofs.Roots.{above_value, above_never}
 use Rattle.matrix.proofs.FactorSteps.{ColumnsAt, RowsAt, columns_begin, columns_end, column_goes, column_stops, rows_end, row_goes, row_stops}
 use Rattle.matrix32.proofs.factor.cholesky_decompose_lower.Statement.{statement}
+use Rattle.matrix32.proofs.factor.cholesky_decompose_lower.Lts.{else-columns-test, then-columns-test+then-not-is_above_zero, then-columns-test+else-not-is_above_zero+in_default, then-columns-test+else-not-is_above_zero+in-Value+then-rows-test+then-not-is_finite}
 use Rattle.matrix32.proofs.factor.cholesky_decompose_lower.Tie as tie
 
 abbrev invariant-rows : tie.invariant-rows
@@ -37,36 +38,37 @@ Ended w l q = ((q ≡ taken) × (w ≡ accepted l)) ⊎ ((r : Refusal) × (q ≡
 
 -- the four ways out of the columns: at the loop's test, at a pivot, at a root that is never missing, at an entry. The last two parts of each are what it leaves in l and in refusal
 ended : (c : tie.Left-columns invariant-rows decreases-rows invariant-columns decreases-columns)
-    → let a = c.before.before.before.args in Ended (worked (factor_of binary32 (refused_by a.of) a.a.now a.n)) c.columns-test.l c.columns-test.refusal
+    → let a = c.args in Ended (worked (factor_of binary32 (refused_by a.of) a.a.now a.n)) c.columns-test.l c.columns-test.refusal
 ended c =
-    let inv = c.before.columns.invariant in
-    ⊎_elim
-    (λ w. inl (w.2 ∙ inv.1, columns_end inv.2 w.0.left ∙ ap accepted (sym w.1)))
-    (⊎_elim
-    (λ w. inr (_, w.9 ∙ w.7.ensures, column_stops inv.2 w.0.taken w.1.ensures.0 w.4.ensures (sym w.5.ensures ∙ not-true _ w.6.taken)))
-    (⊎_elim
-    (λ w. absurd (above_never binary32 _ w.7.ensures (sym w.5.ensures ∙ not-false _ w.6.left) (rw w.9.given.1)))
-    (λ w. inr (RANGE, w.21 ∙ w.19.ensures, row_stops w.11.inv.2 w.12.taken w.13.ensures.0 w.1.ensures.0 w.16.ensures (sym w.17.ensures ∙ not-true _ w.18.taken)))))
-    c.columns-test.branch
+    let inv = c.columns.invariant in
+    elim c.columns-test.branch [
+      | else-columns-test w ↦ inl (w.refusal-is ∙ inv.1, columns_end inv.2 w.columns-test.false ∙ ap accepted (sym w.l-is))
+      | then-columns-test+then-not-is_above_zero w ↦
+          inr (_, w.refusal-is ∙ w.refused_by-refusal.ensures, column_stops inv.2 w.columns-test.true w.row-s.ensures.0 w.less-pivot.ensures (sym w.is_above_zero.ensures ∙ not-true _ w.if-not-is_above_zero.true-raw))
+      | then-columns-test+else-not-is_above_zero+in_default w ↦
+          absurd (above_never binary32 _ w.square_root.ensures (sym w.is_above_zero.ensures ∙ not-false _ w.if-not-is_above_zero.false-raw) (rw w.in_default.is))
+      | then-columns-test+else-not-is_above_zero+in-Value+then-rows-test+then-not-is_finite w ↦
+          inr (RANGE, w.refusal-is ∙ w.placeless-refusal-then-not-is_finite.ensures, row_stops w.rows.invariant.2 w.rows-test.true w.row-r.ensures.0 w.row-s.ensures.0 w.less.ensures (sym w.is_finite.ensures ∙ not-true _ w.if-not-is_finite.true-raw))
+    ]
 
 columns-holds : tie.Need-columns-init invariant-rows decreases-rows invariant-columns decreases-columns
 unfolding of_bits zeros
-columns-holds c = (omega arith, c.placeless.ensures, columns_begin)
+columns-holds c = (omega arith, c.placeless-refusal.ensures, columns_begin)
 
-enum_told : tie.Need-enum-told invariant-rows decreases-rows invariant-columns decreases-columns
-enum_told c = c.match.keys2
+enum_told : tie.Need-enum_told-1 invariant-rows decreases-rows invariant-columns decreases-columns
+enum_told c = c.in_default-1.keys2
 
 rows-holds : tie.Need-rows-init invariant-rows decreases-rows invariant-columns decreases-columns
 rows-holds c =
-    let at-root = c.before.before.before in
+    let at-root = c.before in
     let at_less = at-root.before.before.before in
     let at_row = at_less.before.before.before in
     let at-columns = at_row.before.before in
-    let above = sym at-root.before.before.is-above-zero.ensures ∙ not-false _ at-root.before.if1.false in (
+    let above = sym at-root.is_above_zero.ensures ∙ not-false _ at-root.if-not-is_above_zero.false-raw in (
       omega arith,
       at-columns.columns.invariant.1,
-      column_goes at-columns.columns.invariant.2 at_row.before.columns-test.true at_row.row.ensures.0 at_less.less.ensures above
-          (above_value binary32 _ at-root.square-root.ensures above (rw c.before.d.given.1)),
+      column_goes at-columns.columns.invariant.2 at_row.columns-test.true at_row.row-s.ensures.0 at_less.less-pivot.ensures above
+          (above_value binary32 _ at-root.square_root.ensures above (rw c.in-Value.is)),
     )
 
 rows-again : tie.Need-rows-preserved invariant-rows decreases-rows invariant-columns decreases-columns
@@ -74,25 +76,25 @@ rows-again c =
     let at_less = c.before.before in
     let at-row2 = at_less.before.before.before in
     let at_rows = at-row2.before.before in
-    let at_row = at_rows.before.before.before.before.before.before.before.before.before.before in (
+    let at_row = at_rows.before.before.before.before.before.before.before.before in (
       omega arith,
       at_rows.rows.invariant.1,
-      row_goes at_rows.rows.invariant.2 at-row2.before.rows-test.true at-row2.row2.ensures.0 at_row.row.ensures.0 at_less.less2.ensures
-          (sym c.before.is-finite.ensures ∙ not-false _ c.if2.false),
+      row_goes at_rows.rows.invariant.2 at-row2.rows-test.true at-row2.row-r.ensures.0 at_row.row-s.ensures.0 at_less.less.ensures
+          (sym c.is_finite.ensures ∙ not-false _ c.if-not-is_finite.false-raw),
     )
 
 columns-again : tie.Need-columns-preserved invariant-rows decreases-rows invariant-columns decreases-columns
-columns-again c = (omega arith, c.before.rows.invariant.1, rows_end c.before.rows.invariant.2 c.rows-test.false)
+columns-again c = (omega arith, c.rows.invariant.1, rows_end c.rows.invariant.2 c.rows-test.false)
 
-returns : tie.Need-returns invariant-rows decreases-rows invariant-columns decreases-columns
+returns : tie.Need-returns-then-refusal-ne0 invariant-rows decreases-rows invariant-columns decreases-columns
 unfolding of_bits zeros
-returns c = ⊎_elim (λ w. absurd (c.if3.true (ap (λ (v : Verdict). v.number) w.0))) (λ w. rw (w.2, w.1)) (ended c.before.before)
+returns c = ⊎_elim (λ w. absurd (c.if-refusal-ne0.true (ap (λ (v : Verdict). v.number) w.0))) (λ w. rw (w.2, w.1)) (ended c.before.before)
 
-returns-2 : tie.Need-returns-2 invariant-rows decreases-rows invariant-columns decreases-columns
-returns-2 c = ⊎_elim (λ w. rw (w.1, w.0)) (λ w. absurd (omega (arith, sym (ap (λ (v : Verdict). v.number) w.1) ∙ c.if3.false, number_above w.0))) (ended c.before.before)
+returns-2 : tie.Need-returns invariant-rows decreases-rows invariant-columns decreases-columns
+returns-2 c = ⊎_elim (λ w. rw (w.1, w.0)) (λ w. absurd (omega (arith, sym (ap (λ (v : Verdict). v.number) w.1) ∙ c.if-refusal-ne0.false, number_above w.0))) (ended c.before.before)
 
-pub cholesky-decompose-lower-spec : {M : Type 1} → statement M
-cholesky-decompose-lower-spec =
+pub cholesky_decompose_lower_spec : {M : Type 1} → statement M
+cholesky_decompose_lower_spec =
     tie.close
     (tie.spec
     invariant-rows

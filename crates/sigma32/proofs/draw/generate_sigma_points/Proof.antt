@@ -20,42 +20,42 @@ abbrev whole : tie.Start → Outcome (List Float)
 whole c = draw_of binary32 c.args.n c.args.x.now c.args.p.now c.args.scale
 
 -- past the factor
-abbrev past-factor : (c : tie.Else1) → Reached (whole c.before.before)
+abbrev past-factor : (c : tie.Else-f-ne0) → Reached (whole c.before.before)
 past-factor c =
-    let e = c.before.cholesky-decompose-lower.ensures in
-    record { plan = _; comes = after_goes begin (ap (λ (f : Factor). f.refusal) e) (zeros 64) (ap (λ (f : Factor). f.l) e) c.if1.false }
+    let e = c.cholesky_decompose_lower-f.ensures in
+    record { plan = _; comes = after_goes begin (ap (λ (f : Factor). f.refusal) e) (zeros 64) (ap (λ (f : Factor). f.l) e) c.if-f-ne0.false }
 
 -- past the root of N
-abbrev past-root : (c : tie.After-s) → Reached (whole c.before.before.before.before.before)
+abbrev past-root : (c : tie.In-Value) → Reached (whole c.before.before.before.before)
 past-root c =
-    let at = c.before.before in
-    record { plan = _; comes = root_goes binary32 (past-factor at.before).comes at.square-root.ensures c.s.given.0.0 (rw c.s.given.1) }
+    let at = c.before in
+    record { plan = _; comes = root_goes binary32 (past-factor at.before).comes at.square_root.ensures c.in-Value.s (rw c.in-Value.is) }
 
 -- the points
-abbrev points-tested : (c : tie.After-all-finite) → Tested (whole c.before.before.before.before.before.before.before.before.before.before.before) c.all-finite.result
-points-tested c = let at = c.before.before in tested (point_numbers at.before.before.before.before.before.before.before.before.before.args.n) (past-root at.before.before.before.before).comes at.points.ensures c.all-finite.ensures
+abbrev points-tested : (c : tie.After-all_finite) → Tested (whole c.before.before.before.before.before.before.before.before) c.all_finite.result
+points-tested c = let at = c.before.before in tested (point_numbers at.args.n) (past-root at.before.before).comes at.points-q.ensures c.all_finite.ensures
 
-returns : tie.Need-returns
+returns : tie.Need-returns-then-f-ne0
 returns c =
-    let s = after_stops begin (ap (λ (f : Factor). f.refusal) c.before.before.cholesky-decompose-lower.ensures) c.before.if1.true in
+    let s = after_stops begin (ap (λ (f : Factor). f.refusal) c.cholesky_decompose_lower-f.ensures) c.if-f-ne0.true in
     c.refuse.ensures ∙ ap undrawn s.2 ∙ ap drawn (sym s.1)
 
-returns-2 : tie.Need-returns-2
+returns-2 : tie.Need-returns-in_default
 returns-2 c =
-    let at = c.before.before.before in
-    refused_as drawn c.refuse2.ensures (root_stops binary32 (past-factor at.before).comes at.square-root.ensures (rw c.before.enum_told.given.1))
+    let at = c.before.before in
+    refused_as drawn c.refuse-in_default.ensures (root_stops binary32 (past-factor at.before).comes at.square_root.ensures (rw c.in_default.is))
 
-returns-3 : tie.Need-returns-3
-returns-3 c = refused_as drawn c.refuse3.ensures (fails (points-tested c.before.before) c.before.if2.true)
+returns-3 : tie.Need-returns-then-not-all_finite
+returns-3 c = refused_as drawn c.refuse-then-not-all_finite.ensures (fails (points-tested c.before.before) c.if-not-all_finite.true-raw)
 
-returns-4 : tie.Need-returns-4
-returns-4 c = rw c.placeless.ensures (ap drawn (sym (ends (passes (points-tested c.before.before) c.before.if2.false).comes)))
+returns-4 : tie.Need-returns
+returns-4 c = rw c.placeless.ensures (ap drawn (sym (ends (passes (points-tested c.before.before) c.if-not-all_finite.false-raw).comes)))
 
-mul-all-finite : tie.Need-overflow-mul-all-finite
-mul-all-finite c = let n = c.before.before.before.before.before.before.before.before.before.before.args.n in omega (arith, point_in (n + n) n (omega arith) (omega arith))
+mul-all-finite : tie.Need-overflow_mul-n
+mul-all-finite c = let n = c.args.n in omega (arith, point_in (n + n) n (omega arith) (omega arith))
 
-pub generate-sigma-points-spec : {M : Type 1} → statement M
-generate-sigma-points-spec =
+pub generate_sigma_points_spec : {M : Type 1} → statement M
+generate_sigma_points_spec =
     tie.close
     (tie.spec
     (λ c κs. search rules)

@@ -18,33 +18,33 @@ abbrev whole : tie.Start → Outcome Moment
 whole c = predict_of binary32 c.args.n c.args.points.now c.args.w0m c.args.w.now (wide_kinds c.args.kinds) c.args.q.now
 
 -- the mean
-abbrev mean-tested : (c : tie.After-all-finite) → Tested (whole c.before.before.before) c.all-finite.result
-mean-tested c = let at = c.before.before in tested at.before.args.n begin at.anchored-mean.ensures c.all-finite.ensures
+abbrev mean-tested : (c : tie.After-all_finite) → Tested (whole c.before.before.before) c.all_finite.result
+mean-tested c = let at = c.before.before in tested at.args.n begin at.anchored_mean-x.ensures c.all_finite.ensures
 
 -- P
-abbrev p-tested : (c : tie.After-all-finite2) → Tested (whole c.before.before.before.before.before.before.before.before.before.before.before.before.before) c.all-finite2.result
+abbrev p-tested : (c : tie.After-all_finite-2) → Tested (whole c.before.before.before.before.before.before.before.before.before.before.before.before.before) c.all_finite-2.result
 p-tested c =
     let at = c.before.before in
-    let n = at.before.before.before.before.before.before.before.before.before.before.before.args.n in
-    tested (n * n) (passes (mean-tested at.before.before.before.before.before.before.before.before) at.before.before.before.before.before.before.before.if1.false).comes (rw (← at.before.before.before.before.before.deviations.ensures, ← at.before.before.spread.ensures) at.plus.ensures) c.all-finite2.ensures
+    let n = at.args.n in
+    tested (n * n) (passes (mean-tested at.before.before.before.before.before.before.before.before) at.if-not-all_finite.false-raw).comes (rw (← at.deviations-dx.ensures, ← at.spread-s.ensures) at.plus-p.ensures) c.all_finite-2.ensures
 
-returns : tie.Need-returns
-returns c = refused_as moments c.refuse.ensures (fails (mean-tested c.before.before) c.before.if1.true)
+returns : tie.Need-returns-then-not-all_finite
+returns c = refused_as moments c.refuse.ensures (fails (mean-tested c.before.before) c.if-not-all_finite.true-raw)
 
-mul-nn : tie.Need-overflow-mul-nn
+mul-nn : tie.Need-overflow_mul-nn
 mul-nn c = let n = c.args.n in omega (arith, cells_in n n (omega arith) (omega arith))
 
-plus-requires : tie.Need-plus-requires
-plus-requires c κs = let n = c.before.before.before.before.before.before.before.before.before.before.args.n in cells_in n n (omega arith) (omega arith)
+plus-requires : tie.Need-plus-p-requires
+plus-requires c κs = let n = c.args.n in cells_in n n (omega arith) (omega arith)
 
-returns-2 : tie.Need-returns-2
-returns-2 c = refused_as moments c.refuse2.ensures (fails (p-tested c.before.before) c.before.if2.true)
+returns-2 : tie.Need-returns-then-not-all_finite-2
+returns-2 c = refused_as moments c.refuse-then-not-all_finite-2.ensures (fails (p-tested c.before.before) c.if-not-all_finite-2.true-raw)
 
-returns-3 : tie.Need-returns-3
-returns-3 c = rw c.placeless.ensures (ap moments (sym (ends (passes (p-tested c.before.before) c.before.if2.false).comes)))
+returns-3 : tie.Need-returns
+returns-3 c = rw c.placeless-refusal.ensures (ap moments (sym (ends (passes (p-tested c.before.before) c.if-not-all_finite-2.false-raw).comes)))
 
-pub reconstruct-prediction-spec : {M : Type 1} → statement M
-reconstruct-prediction-spec =
+pub reconstruct_prediction_spec : {M : Type 1} → statement M
+reconstruct_prediction_spec =
     tie.close
     (tie.spec
     (λ c. search rules)
