@@ -345,10 +345,11 @@ def main(words):
     for crate in [w for w in words if not w.startswith('-')] or CRATES:
         files = dict(made(crate))
         # a made file whose text at f64 is gone
-        for folder, _, names in os.walk(os.path.join(HERE, 'crates', crate + '32')):
+        base = os.path.join(HERE, 'crates', crate + '32')
+        for folder, _, names in [w for part in ('src', 'proofs') for w in os.walk(os.path.join(base, part))]:
             for name in names:
                 there = os.path.join(folder, name)
-                if MADE in open(there, encoding='utf-8').readline() and os.path.relpath(there, os.path.join(HERE, 'crates', crate + '32')) not in files:
+                if MADE in open(there, encoding='utf-8').readline() and os.path.relpath(there, base) not in files:
                     parted += 1
                     print('left over: ' + os.path.relpath(there, HERE))
         for rel, text in files.items():
