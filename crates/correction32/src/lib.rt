@@ -61,7 +61,7 @@ fn widened(kinds: [Kind; 4]) -> [Kind; 8]
     ]
 }
 
-// The steps (the Rust's `compute_kalman_gain` and `apply_correction`) from z mean, S, x mean and the cross covariance C, as a close has made them, on: the factor of S, its inverse V, the gain K = C.Vᵀ, y, x and P. Each listed result is checked in running order, those four first.
+// The steps (the Rust's `compute_kalman_gain` and `apply_correction`) from z mean, S, x mean and the cross covariance C, as a close has made them, on: the factor of S, its inverse V, the gain K = C·Vᵀ, y, x and P. Each listed result is checked in running order, those four first.
 fn apply_correction(
     n: usize,
     m: usize,

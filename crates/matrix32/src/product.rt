@@ -6,7 +6,7 @@ ghost use Rattle.matrix.specs.Product.{transb_of};
 use crate::sums;
 use matrix::layout;
 
-// A.Bᵀ of n rows and m rows of d: n rows of m cells, each a sum from +0 upward.
+// A·Bᵀ of n rows and m rows of d: n rows of m cells, each a sum from +0 upward.
 pub fn mult_transb(a: &[f32; 64], n: usize, b: &[f32; 64], m: usize, d: usize) -> [f32; 64]
     requires { (n ≤ 8) × (m ≤ 8) × (d ≤ 8) }
     ensures { result ≡ transb_of binary32 a.now b.now d n m }

@@ -9,7 +9,7 @@ use matrix::pivots::Pivots;
 use matrix::{factor, layout};
 use root::Root;
 
-// Number i of point k: point 0 is x, then come n points x[i] + typeof.s.L[i][j], and n points x[i] − typeof.s.L[i][j].
+// Number i of point k: point 0 is x, then come n points x[i] + s·L[i][j], and n points x[i] − s·L[i][j].
 fn point_at(n: usize, x: &[f64; 8], l: &[f64; 64], s: f64, k: usize, i: usize) -> f64
     requires { (n ≤ 8) × (i < n) × (k ≤ n + n) }
     ensures { result ≡ point_at binary64 n x.now l.now s k i }

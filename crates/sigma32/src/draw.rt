@@ -11,7 +11,7 @@ use matrix::pivots::Pivots;
 use matrix32::factor;
 use root32::Root;
 
-// Number i of point k: point 0 is x, then come n points x[i] + typeof.s.L[i][j], and n points x[i] − typeof.s.L[i][j].
+// Number i of point k: point 0 is x, then come n points x[i] + s·L[i][j], and n points x[i] − s·L[i][j].
 fn point_at(n: usize, x: &[f32; 8], l: &[f32; 64], s: f32, k: usize, i: usize) -> f32
     requires { (n ≤ 8) × (i < n) × (k ≤ n + n) }
     ensures { result ≡ point_at binary32 n x.now l.now s k i }
