@@ -6,11 +6,11 @@ use lib.Seq.{length-take-le}
 use Rattle.lines.proofs.saved.save.Statement.{statement}
 use Rattle.lines.proofs.saved.save.Tie as tie
 
-slice-aggregate-save : tie.Need-slice-aggregate-save
-slice-aggregate-save c = sym (length-take-le _ _ (omega (arith, c.before.marked-bytes.ensures.0, c.before.before.if1.false)))
+slice-aggregate-save : tie.Need-slice_bounds-save-end
+slice-aggregate-save c = sym (length-take-le _ _ (omega (arith, c.marked_bytes-buffer.ensures.0, c.if-value-gt4096.false)))
 
-pub save-spec : {M : Type 1} → statement M
-save-spec =
+pub save_spec : {M : Type 1} → statement M
+save_spec =
     tie.close
     (tie.spec
     (λ c κs. search rules)
