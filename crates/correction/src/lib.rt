@@ -1,4 +1,6 @@
 // The correction: x and P from observed points and a measurement, by weighted averages through the kinds or, in `flat`, by flat ones without kinds; and the steps that both share.
+#![tactic(auto)]
+
 ghost use Rattle.std.specs.Prelude.{◌≡◌, ◌≤◌};
 ghost use Rattle.std.specs.Float.{binary64};
 ghost use Rattle.matrix.specs.Results.{run};

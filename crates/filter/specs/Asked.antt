@@ -1,5 +1,5 @@
 -- What a call asks before its steps, a field for each row of the table of refusals, and the order in which the rows are tried. Definitions only.
-use Rattle.std.specs.Prelude.{ℕ, Bool, true, not, ◌&&◌, List, [], ◌∷◌, leb, length, Float}
+use Rattle.std.specs.Prelude.{ℕ, Bool, not, ◌&&◌, List, leb, length, Float}
 use Rattle.std.specs.Float.{Format}
 use Rattle.floats.specs.declared.Verdict.{Verdict}
 use Rattle.floats.specs.Refusal.{SIZE, SHORT, STAGE, RECORD, STALE, FRESH, KIND, PARAM, Outcome, refusal, unless, onward, nothing}

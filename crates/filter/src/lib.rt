@@ -1,4 +1,6 @@
 // The filter and its calls.
+#![tactic(auto)]
+
 use angles::Kind;
 use floats::Verdict;
 use sigma::Params;

@@ -1,4 +1,6 @@
 // The floor of the house: tests of numbers that every other crate stands on, and what every answer says.
+#![tactic(auto)]
+
 ghost use Rattle.std.specs.Prelude.{◌≡◌, take};
 ghost use Rattle.std.specs.Float.Ieee.Scale.{finite};
 ghost use Rattle.floats.specs.Refusal.{slice_number, placeless, earlier, refusal};

@@ -14,7 +14,7 @@ use Rattle.floats.specs.Numbers.{all_finite}
 use Rattle.floats.proofs.Refusals.{refused_never, gave_zero, gave_number, onward_same, onward_unless, passed, failed}
 use Rattle.root.specs.Definition.{root_of}
 use Rattle.root.specs.Answer.{root_outcome}
-use Rattle.matrix.specs.Results.{Result, numbers, rooting, good, refusal_of, First, now, later, Work, made, check, worked, results, product, then, listed, Plan, finish, after, run, planned}
+use Rattle.matrix.specs.Results.{Result, rooting, good, refusal_of, First, now, later, Work, made, check, worked, results, product, then, listed, Plan, finish, after, run, planned}
 use Rattle.matrix.proofs.Roots.{root_value, root_refused}
 
 -- ---- works

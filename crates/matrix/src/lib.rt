@@ -1,4 +1,6 @@
 // Matrices as flat arrays of f64, row by row: sums of products, the factor, the inverse and the product with a transpose.
+#![tactic(auto)]
+
 pub mod factor;
 pub mod inverse;
 pub mod layout;

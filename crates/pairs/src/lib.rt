@@ -1,4 +1,6 @@
 // Two filters of one size on one settings sheet.
+#![tactic(auto)]
+
 use filter::{Sheet, Track};
 use floats::Verdict;
 

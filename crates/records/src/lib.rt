@@ -1,4 +1,6 @@
 // Save and load (document 02, A8): the record of a filter into lent bytes, and a filter from the bytes of a record.
+#![tactic(auto)]
+
 ghost use Rattle.std.specs.Prelude.{◌≡◌, cond, leb};
 ghost use Rattle.std.specs.Float.{binary64};
 ghost use Rattle.floats.specs.Fronts.{over};

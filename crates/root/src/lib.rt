@@ -1,5 +1,7 @@
 // IEEE 754's squareRoot of an f64, to nearest, worked from the bits: sign, exponent and fraction.
 // The answer is a root, or refusal 56 for a NaN, an infinity and what is below zero.
+#![tactic(auto)]
+
 ghost use Rattle.std.specs.Prelude.{◌≡◌, true, ℕ, ◌*◌, ◌^◌, ◌≤◌, ◌<◌};
 ghost use Rattle.std.specs.Float.{binary64};
 ghost use Rattle.std.specs.Float.Ieee.{of_bits};

@@ -1,4 +1,6 @@
 // Sigma points: the parameters and weights, the draw, the anchored mean, the spread, and the prediction made of them.
+#![tactic(auto)]
+
 ghost use Rattle.std.specs.Prelude.{◌≡◌, ◌+◌, ◌*◌, ◌<◌, ◌≤◌};
 
 use floats::Verdict;

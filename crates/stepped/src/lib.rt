@@ -1,4 +1,6 @@
 // One point at a time: a filter's open, ask, image and close, with no point list lent. A stepped open is the whole-list open whose list stays in the filter, and a stepped close is the whole-list close on the images that are in.
+#![tactic(auto)]
+
 ghost use Rattle.std.specs.Prelude.{◌≡◌};
 ghost use Rattle.std.specs.Float.{binary64};
 ghost use Rattle.floats.specs.Fronts.{over};

@@ -1,4 +1,6 @@
 // Floats as the programs read and write them: 16 hex digits, the bits of an f64. Any NaN pattern stands for NaN, and a NaN is written 7ff8000000000000.
+#![tactic(auto)]
+
 ghost use Rattle.std.specs.Prelude.{◌≡◌};
 ghost use Rattle.std.specs.Float.{binary64};
 ghost use Rattle.std.specs.Float.Ieee.{of_bits, to_bits};

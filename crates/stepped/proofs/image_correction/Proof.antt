@@ -8,7 +8,7 @@ use borrow.Author.Tests.{leb-true}
 use lib.Ieee.{binary64}
 use Rattle.filter.specs.Asked.{in_range}
 use Rattle.filter.specs.Filters.{is_correcting_stepped}
-use Rattle.filter.specs.Calls.{Call, stepping, image_correction, sized, due, fits, asks}
+use Rattle.filter.specs.Calls.{Call, stepping, image_correction, due, fits, asks}
 use Rattle.filter.specs.Steps.{answered}
 use Rattle.filter.proofs.Sizes.{and_left, and_right, and_true, range_le}
 use Rattle.filter.proofs.Order.{tested}

@@ -15,8 +15,6 @@ use Rattle.angles.specs.declared.Kind.{Kind}
 use Rattle.pieces.specs.Bytes.{kind_at}
 use Rattle.sigma.specs.declared.Params.{Params}
 use Rattle.filter.specs.declared.Filter.{Filter}
-use Rattle.filter.specs.declared.Track.{Track}
-use Rattle.filter.specs.Filters.{sheet, filter}
 use Rattle.filter.specs.New.{refused_answer}
 use Rattle.filter.specs.Load.{states_in, filter_in, load_asks}
 use Rattle.records.specs.Parts.{judged, contents_of}
