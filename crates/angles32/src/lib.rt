@@ -1,4 +1,6 @@
 // The exact wrap of a difference of headings into (-h, h], and the residual kinds that use it. At f32, made from crates/angles by ./narrow.py: edit there.
+#![tactic(auto)]
+
 ghost use Rattle.std.specs.Prelude.{◌≡◌};
 ghost use Rattle.std.specs.Float.{binary32};
 ghost use Rattle.floats.specs.Refusal.{refusal};

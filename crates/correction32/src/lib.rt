@@ -1,4 +1,6 @@
 // The correction: x and P from observed points and a measurement, by weighted averages through the kinds. At f32, made from crates/correction by ./narrow.py: edit there.
+#![tactic(auto)]
+
 ghost use Rattle.std.specs.Prelude.{◌≡◌, ◌≤◌};
 ghost use Rattle.std.specs.Float.{binary32};
 ghost use Rattle.matrix.specs.Results.{run};

@@ -1,1 +1,2 @@
 // No code: the demands of the f32 filter, as theorems.
+#![tactic(auto)]

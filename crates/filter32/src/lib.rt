@@ -1,4 +1,6 @@
 // The filter and its calls. At f32, made from crates/filter by ./narrow.py: edit there.
+#![tactic(auto)]
+
 use angles32::Kind;
 use filter::Stage;
 use floats::Verdict;

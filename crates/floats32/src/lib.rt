@@ -1,4 +1,6 @@
 // Tests of numbers, and the search for a bad one. At f32, made from crates/floats by ./narrow.py: edit there.
+#![tactic(auto)]
+
 ghost use Rattle.std.specs.Prelude.{◌≡◌, take};
 ghost use Rattle.std.specs.Float.Ieee.Scale.{finite};
 ghost use Rattle.floats.specs.Refusal.{earlier, refusal};

@@ -1,4 +1,6 @@
 // The lines of a script that are calls on the filter or on the pair: how each is read, what it does, and its answer. Those of the f32 filter are in lines32, which is made from this crate.
+#![tactic(auto)]
+
 use crate::answers::Turn;
 use crate::held::{Held, Whose};
 use filter::Filter;

@@ -1,4 +1,6 @@
 // The lines of a script that begin with `@w`: calls on a filter at f32. The rest of the crate is made from crates/lines, which has the calls at f64, by narrow.py.
+#![tactic(auto)]
+
 use crate::answers::Turn;
 use filter32::Filter;
 use sigma32::Params;

@@ -1,5 +1,7 @@
 // IEEE 754's squareRoot of an f32, to nearest, worked from the bits: sign, exponent and fraction. At f32, made from crates/root by ./narrow.py: edit there.
 // The answer is a root, or refusal 56 for a NaN, an infinity and what is below zero.
+#![tactic(auto)]
+
 ghost use Rattle.std.specs.Prelude.{◌≡◌, ℕ, ◌*◌, ◌^◌, ◌≤◌, ◌<◌};
 ghost use Rattle.std.specs.Float.{binary32};
 ghost use Rattle.std.specs.Float.Ieee.{of_bits};

@@ -1,4 +1,6 @@
 // The text of a script of calls, taken apart (bytes and tokens, sizes, numbers, lists and kinds, records in hex, the call that a line names) and written (answers, put into lent bytes).
+#![tactic(auto)]
+
 pub mod counts;
 pub mod hex;
 pub mod names;

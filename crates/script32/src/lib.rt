@@ -1,4 +1,6 @@
 // The text of a script of calls, taken apart (numbers, lists and kinds) and written (answers, put into lent bytes). At f32, made from crates/script by ./narrow.py: edit there.
+#![tactic(auto)]
+
 pub mod numbers;
 pub mod write;
 

@@ -1,4 +1,6 @@
 // Sigma points: the parameters and weights, the draw, the anchored mean, the spread, and the prediction made of them. At f32, made from crates/sigma by ./narrow.py: edit there.
+#![tactic(auto)]
+
 use floats::Verdict;
 
 pub mod draw;

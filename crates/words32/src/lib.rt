@@ -1,4 +1,6 @@
 // Floats as the programs read and write them: 8 hex digits, the bits of an f32. Any NaN pattern stands for NaN, and a NaN is written 7fc00000. At f32, made from crates/words by ./narrow.py: edit there.
+#![tactic(auto)]
+
 ghost use Rattle.std.specs.Prelude.{◌≡◌};
 ghost use Rattle.std.specs.Float.{binary32};
 ghost use Rattle.std.specs.Float.Ieee.{of_bits, to_bits};
