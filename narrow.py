@@ -72,16 +72,16 @@ PROOFS = {
     },
     'script': {
         'numbers::number_at': [
-            ('returns-4 :', 'cast-float-of : tie.Need-cast-float-of\ncast-float-of c = omega (arith, word-below binary32 _ _ (sym (c .before .before .before .word-at .ensures) ∙ c .before .b .given .1))\n\nreturns-4 :'),
-            ('    (λ c κs. search needs)\n    returns-4)', '    cast-float-of\n    (λ c κs. search needs)\n    returns-4)'), ('use Rattle·words.specs.declared', 'use Rattle·words.proofs.Digits.{word-below}\nuse Rattle·words.specs.declared'),
+            ('returns-4 :', 'cast-b : tie.Need-overflow_cast-b\ncast-b c = omega (arith, word_below binary32 _ _ (sym c.word_at.ensures ∙ c.in-Bits.is))\n\nreturns-4 :'),
+            ('    (λ c κs. search rules)\n    returns-4)', '    cast-b\n    (λ c κs. search rules)\n    returns-4)'), ('use Rattle.words.specs.declared', 'use Rattle.words.proofs.Digits.{word_below}\nuse Rattle.words.specs.declared'),
         ],
         'numbers::list_at': [
-            ('(c .enum-told2 .given .1)', '(ap wideNumberRead (c .enum-told2 .given .1))'), ('(c .before .value2 .given .1)', '(ap wideNumberRead (c .before .value2 .given .1))'),
+            ('    c.in_default-number_at.is', '    (ap wide_number_read c.in_default-number_at.is)'), ('    c.in-Number.is', '    (ap wide_number_read c.in-Number.is)'),
             ('use native.Mathlib', 'use mathlib.Core.Path.{ap}\nuse native.Mathlib'),
         ],
-        'numbers::kind_at': [('ap turnOf (sym (c .enum-told .given .1))', 'ap turnOf (ap wideNumberRead (sym (c .enum-told .given .1)))'), ('ap turnOf (sym (c .before .value .given .1))', 'ap turnOf (ap wideNumberRead (sym (c .before .value .given .1)))')],
+        'numbers::kind_at': [('ap turn_of (sym c.in_default.is)', 'ap turn_of (ap wide_number_read (sym c.in_default.is))'), ('ap turn_of (sym c.in-Number.is)', 'ap turn_of (ap wide_number_read (sym c.in-Number.is))')],
         'numbers::marked': [('    (λ c κs. tt)\n', '    (λ c. omega arith)\n    (λ c κs. tt)\n')],
-        'write::put_number': [('    (λ c κs. search needs)\n    (λ c κs. search needs)\n', '    (λ c κs. search needs)\n    (λ c. search needs)\n    (λ c κs. search needs)\n')],
+        'write::put_number': [('    (λ c κs. search rules)\n    (λ c κs. search rules)\n', '    (λ c κs. search rules)\n    (λ c. search rules)\n    (λ c κs. search rules)\n')],
     },
 }
 # in proofs: an argument that is an f32 struct, handed to a definition or a law, is handed on wide
@@ -134,7 +134,7 @@ NUMBERS = {
         '0x8000_0000_0000_0000': '0x8000_0000',
     },
     'script': {
-        '16 hex digits': '8 hex digits', 'end - start != 16': 'end - start != 8', 'float_of(b': 'float_of(b as u32', '2^52': '2^23', '0x4330_0000_0000_0000 + i as u64': '0x4b00_0000 + i as u32', 'bits_of(x), 16': 'bits_of(x) as u64, 8',
+        '16 hex digits': '8 hex digits', 'end - start != 16': 'end - start != 8', 'end-start-ne16': 'end-start-ne8', 'float_of(b': 'float_of(b as u32', '2^52': '2^23', '0x4330_0000_0000_0000 + i as u64': '0x4b00_0000 + i as u32', 'bits_of(x), 16': 'bits_of(x) as u64, 8',
         '(bytes and tokens, sizes, numbers, lists and kinds, records in hex, the call that a line names)': '(numbers, lists and kinds)',
     },
 }

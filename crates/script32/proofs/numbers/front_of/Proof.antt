@@ -6,11 +6,11 @@ use lib.Seq.{length-take-le, take_all}
 use Rattle.script32.proofs.numbers.front_of.Statement.{statement}
 use Rattle.script32.proofs.numbers.front_of.Tie as tie
 
-slice-aggregate-result : tie.Need-slice-aggregate-result
+slice-aggregate-result : tie.Need-slice_bounds-result-end
 slice-aggregate-result c = sym (length-take-le _ _ (omega arith))
 
-returns-2 : tie.Need-returns-2
-returns-2 c = sym (take_all _ _ c.if1.false)
+returns-2 : tie.Need-returns
+returns-2 c = sym (take_all _ _ c.if-len-list.false)
 
-pub front-of-spec : {M : Type 1} → statement M
-front-of-spec = tie.close (tie.spec slice-aggregate-result (λ c. search rules) returns-2)
+pub front_of_spec : {M : Type 1} → statement M
+front_of_spec = tie.close (tie.spec slice-aggregate-result (λ c. search rules) returns-2)

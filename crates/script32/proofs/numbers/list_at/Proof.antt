@@ -9,53 +9,53 @@ use Rattle.script32.specs.Wide.{wide_number_read}
 use Rattle.script32.proofs.numbers.list_at.Statement.{statement}
 use Rattle.script32.proofs.numbers.list_at.Tie as tie
 
-abbrev invariant-loop : tie.invariant-loop
-invariant-loop s at out₀ value next len i₀ place₀ out i place = Gone binary32 s at out₀ len i place out
+abbrev invariant-loop-i : tie.invariant-loop-i
+invariant-loop-i s at out₀ value next len i₀ place₀ out i place = Gone binary32 s at out₀ len i place out
 
-abbrev decreases-loop : tie.decreases-loop
-decreases-loop s at out₀ value next len i₀ place₀ out i place = len - i
+abbrev decreases-loop-i : tie.decreases-loop-i
+decreases-loop-i s at out₀ value next len i₀ place₀ out i place = len - i
 
-returns : tie.Need-returns invariant-loop decreases-loop
+returns : tie.Need-returns-in_default invariant-loop-i decreases-loop-i
 returns c =
-    let a = c.before.before.before.before.args in
-    no_size binary32 a.s.now a.at a.out.now c.before.before.size-at.ensures c.enum_told.given.1
+    let a = c.args in
+    no_size binary32 a.s.now a.at a.out.now c.size_at.ensures c.in_default.is
 
-returns-2 : tie.Need-returns-2 invariant-loop decreases-loop
+returns-2 : tie.Need-returns-then-value-gt512 invariant-loop-i decreases-loop-i
 returns-2 c =
-    let a = c.before.before.before.before.before.before.args in
-    too_long binary32 a.s.now a.at a.out.now c.before.before.before.before.size-at.ensures
-    c.before.before.value.given.1
-    c.if1.true
+    let a = c.args in
+    too_long binary32 a.s.now a.at a.out.now c.size_at.ensures
+    c.in-Size.is
+    c.if-value-gt512.true
 
-loop-holds : tie.Need-loop-init invariant-loop decreases-loop
+loop-holds : tie.Need-loop-i-init invariant-loop-i decreases-loop-i
 loop-holds c =
-    gone_none c.before.before.before.before.before.before.args.out.now c.before.before.before.before.size-at.ensures
-    c.before.before.value.given.1
-    c.if1.false
+    gone_none c.args.out.now c.size_at.ensures
+    c.in-Size.is
+    c.if-value-gt512.false
 
-returns-3 : tie.Need-returns-3 invariant-loop decreases-loop
+returns-3 : tie.Need-returns-in_default-number_at invariant-loop-i decreases-loop-i
 returns-3 c =
-    gone_not c.before.before.before.before.loop.invariant c.before.before.before.loop-test.true c.before.before.number_at.ensures
-    (ap wide_number_read c.enum-told2.given.1)
+    gone_not c.loop-i.invariant c.loop-i-test.true c.number_at.ensures
+    (ap wide_number_read c.in_default-number_at.is)
 
-element-write-out : tie.Need-element-write-out invariant-loop decreases-loop
-element-write-out c = omega (arith, c.before.before.before.before.before.loop.invariant.few)
+element-write-out : tie.Need-bounds-out-i invariant-loop-i decreases-loop-i
+element-write-out c = omega (arith, c.loop-i.invariant.few)
 
-loop-again : tie.Need-loop-preserved invariant-loop decreases-loop
+loop-again : tie.Need-loop-i-preserved invariant-loop-i decreases-loop-i
 loop-again c =
-    gone_more c.before.before.before.before.before.loop.invariant c.before.before.before.before.loop-test.true
-    c.before.before.before.number_at.ensures
-    (ap wide_number_read c.before.value2.given.1)
+    gone_more c.loop-i.invariant c.loop-i-test.true
+    c.number_at.ensures
+    (ap wide_number_read c.in-Number.is)
 
-returns-4 : tie.Need-returns-4 invariant-loop decreases-loop
-returns-4 c = gone_end c.before.loop.invariant c.loop-test.false
+returns-4 : tie.Need-returns invariant-loop-i decreases-loop-i
+returns-4 c = gone_end c.loop-i.invariant c.loop-i-test.false
 
-pub list-at-spec : {M : Type 1} → statement M
-list-at-spec =
+pub list_at_spec : {M : Type 1} → statement M
+list_at_spec =
     tie.close
     (tie.spec
-    invariant-loop
-    decreases-loop
+    invariant-loop-i
+    decreases-loop-i
     (λ c κs. tt)
     (λ c. search rules)
     (λ c. search rules)

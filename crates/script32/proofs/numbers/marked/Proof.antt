@@ -8,24 +8,24 @@ use Rattle.script.proofs.Marks.{Marked, marked_none, marked_more, mark_of_lem}
 use Rattle.script32.proofs.numbers.marked.Statement.{statement}
 use Rattle.script32.proofs.numbers.marked.Tie as tie
 
-abbrev invariant-loop : tie.invariant-loop
-invariant-loop buffer₀ i₀ buffer i = Marked nan (mark_of binary32) 512 buffer i
+abbrev invariant-loop-i : tie.invariant-loop-i
+invariant-loop-i buffer₀ i₀ buffer i = Marked nan (mark_of binary32) 512 buffer i
 
-abbrev decreases-loop : tie.decreases-loop
-decreases-loop buffer₀ i₀ buffer i = 512 - i
+abbrev decreases-loop-i : tie.decreases-loop-i
+decreases-loop-i buffer₀ i₀ buffer i = 512 - i
 
-loop-again : tie.Need-loop-preserved invariant-loop decreases-loop
-loop-again c = marked_more c.before.before.loop.invariant c.before.loop-test.true (mark_of_lem binary32 _ c.float_of.ensures)
+loop-again : tie.Need-loop-i-preserved invariant-loop-i decreases-loop-i
+loop-again c = marked_more c.loop-i.invariant c.loop-i-test.true (mark_of_lem binary32 _ c.float_of.ensures)
 
-returns : tie.Need-returns invariant-loop decreases-loop
-returns c = let r = c.before.loop.invariant in (r.size, λ i h. r.holds i (omega arith))
+returns : tie.Need-returns invariant-loop-i decreases-loop-i
+returns c = let r = c.loop-i.invariant in (r.size, λ i h. r.holds i (omega arith))
 
-pub marked-spec : {M : Type 1} → statement M
-marked-spec =
+pub marked_spec : {M : Type 1} → statement M
+marked_spec =
     tie.close
     (tie.spec
-    invariant-loop
-    decreases-loop
+    invariant-loop-i
+    decreases-loop-i
     (λ c. marked_none refl)
     (λ c. omega arith)
     (λ c. omega arith)

@@ -12,40 +12,40 @@ use Rattle.script.proofs.Widths.{other_width, of_word}
 use Rattle.script32.proofs.numbers.number_at.Statement.{statement}
 use Rattle.script32.proofs.numbers.number_at.Tie as tie
 
-returns : tie.Need-returns
+returns : tie.Need-returns-then-end-start
 returns c =
-    let s = c.before.before.before.args.s.now in
-    other_width binary32 s c.before.token-at.result (λ e. omega arith)
-    ∙ ap (λ (t : Token). number_in binary32 s t) c.before.token-at.ensures
+    let s = c.args.s.now in
+    other_width binary32 s c.token_at-t.result (λ e. omega arith)
+    ∙ ap (λ (t : Token). number_in binary32 s t) c.token_at-t.ensures
 
-returns-2 : tie.Need-returns-2
+returns-2 : tie.Need-returns-then-end-start-ne8
 returns-2 c =
-    let s = c.before.before.before.before.args.s.now in
-    other_width binary32 s c.before.before.token-at.result (λ e. omega arith)
-    ∙ ap (λ (t : Token). number_in binary32 s t) c.before.before.token-at.ensures
+    let s = c.args.s.now in
+    other_width binary32 s c.token_at-t.result (λ e. omega arith)
+    ∙ ap (λ (t : Token). number_in binary32 s t) c.token_at-t.ensures
 
-returns-3 : tie.Need-returns-3
+returns-3 : tie.Need-returns-in_default
 returns-3 c =
-    let s = c.before.before.before.before.before.before.before.args.s.now in
-    let t = c.before.before.before.before.before.token-at.result in
-    ap (λ (w : Word). number_from binary32 t.end w) (sym c.enum_told.given.1)
-    ∙ of_word binary32 s t (omega arith) c.before.before.word_at.ensures
-    ∙ ap (λ (t : Token). number_in binary32 s t) c.before.before.before.before.before.token-at.ensures
+    let s = c.args.s.now in
+    let t = c.token_at-t.result in
+    ap (λ (w : Word). number_from binary32 t.end w) (sym c.in_default.is)
+    ∙ of_word binary32 s t (omega arith) c.word_at.ensures
+    ∙ ap (λ (t : Token). number_in binary32 s t) c.token_at-t.ensures
 
-cast-float-of : tie.Need-overflow-cast-float-of
-cast-float-of c = omega (arith, word_below binary32 _ _ (sym c.before.before.before.word_at.ensures ∙ c.before.b.given.1))
+cast-b : tie.Need-overflow_cast-b
+cast-b c = omega (arith, word_below binary32 _ _ (sym c.word_at.ensures ∙ c.in-Bits.is))
 
-returns-4 : tie.Need-returns-4
+returns-4 : tie.Need-returns
 returns-4 c =
-    let s = c.before.before.before.before.before.before.before.before.before.args.s.now in
-    let t = c.before.before.before.before.before.before.before.token-at.result in
+    let s = c.args.s.now in
+    let t = c.token_at-t.result in
     ap (λ (x : Float). Number x t.end) c.float_of.ensures
-    ∙ ap (λ (w : Word). number_from binary32 t.end w) (sym c.before.before.b.given.1)
-    ∙ of_word binary32 s t (omega arith) c.before.before.before.before.word_at.ensures
-    ∙ ap (λ (t : Token). number_in binary32 s t) c.before.before.before.before.before.before.before.token-at.ensures
+    ∙ ap (λ (w : Word). number_from binary32 t.end w) (sym c.in-Bits.is)
+    ∙ of_word binary32 s t (omega arith) c.word_at.ensures
+    ∙ ap (λ (t : Token). number_in binary32 s t) c.token_at-t.ensures
 
-pub number-at-spec : {M : Type 1} → statement M
-number-at-spec =
+pub number_at_spec : {M : Type 1} → statement M
+number_at_spec =
     tie.close
     (tie.spec
     (λ c κs. search rules)
@@ -55,6 +55,6 @@ number-at-spec =
     (λ c. search rules)
     (λ c. search rules)
     returns-3
-    cast-float-of
+    cast-b
     (λ c κs. search rules)
     returns-4)

@@ -16,19 +16,18 @@ returns c =
     let h = p.before.before.before in
     let b = h.before.before in
     let small : b.bits_of.result < 16 ^ width binary32 = omega arith in
-    let a = b.before.before.args in
-    number_put binary32 a.x a.out.now a.at p.put.ensures
-    (word_text_lem binary32 b.bits_of.result h.hex.result h.hex.ensures.1.0 small h.hex.ensures.1.1 ∙ ap (word_text binary32) b.bits_of.ensures)
-    c.before.before.put2.ensures
+    let a = b.args in
+    number_put binary32 a.x a.out.now a.at p.put-next.ensures
+    (word_text_lem binary32 b.bits_of.result h.hex-k.result h.hex-k.ensures.1.0 small h.hex-k.ensures.1.1.0 ∙ ap (word_text binary32) b.bits_of.ensures)
+    c.put.ensures
 
-pub put-number-spec : {M : Type 1} → statement M
-put-number-spec =
+pub put_number_spec : {M : Type 1} → statement M
+put_number_spec =
     tie.close
     (tie.spec
     (λ c κs. search rules)
     (λ c. search rules)
     (λ c κs. search rules)
-    (λ c. search rules)
     (λ c κs. search rules)
     (λ c. search rules)
     (λ c. search rules)

@@ -6,31 +6,31 @@ use Rattle.script.proofs.Pages.{Printed, printed_none, printed_more, printed_ove
 use Rattle.script32.proofs.write.put_numbers.Statement.{statement}
 use Rattle.script32.proofs.write.put_numbers.Tie as tie
 
-abbrev invariant-loop : tie.invariant-loop
-invariant-loop out₀ at s k next₀ i₀ out next i = Printed binary32 s k out₀ at i out next
+abbrev invariant-loop-i : tie.invariant-loop-i
+invariant-loop-i out₀ at s k next₀ i₀ out next i = Printed binary32 s k out₀ at i out next
 
-abbrev decreases-loop : tie.decreases-loop
-decreases-loop out₀ at s k next₀ i₀ out next i = k - i
+abbrev decreases-loop-i : tie.decreases-loop-i
+decreases-loop-i out₀ at s k next₀ i₀ out next i = k - i
 
-returns : tie.Need-returns invariant-loop decreases-loop
-returns c = printed_over c.before.before.loop.invariant (omega arith)
+returns : tie.Need-returns-then-i-s invariant-loop-i decreases-loop-i
+returns c = printed_over c.loop-i.invariant (omega arith)
 
-loop-again : tie.Need-loop-preserved invariant-loop decreases-loop
+loop-again : tie.Need-loop-i-preserved invariant-loop-i decreases-loop-i
 loop-again c =
     let e = c.before.before.before.before.before in
-    printed_more e.before.before.loop.invariant e.before.loop-test.true e.if1.false c.before.before.put-number.ensures
+    printed_more e.loop-i.invariant e.loop-i-test.true e.if-i-s.false c.put_number-next.ensures
 
-returns-2 : tie.Need-returns-2 invariant-loop decreases-loop
-returns-2 c = printed_over c.before.loop.invariant (omega arith)
+returns-2 : tie.Need-returns invariant-loop-i decreases-loop-i
+returns-2 c = printed_over c.loop-i.invariant (omega arith)
 
-pub put-numbers-spec : {M : Type 1} → statement M
-put-numbers-spec =
+pub put_numbers_spec : {M : Type 1} → statement M
+put_numbers_spec =
     tie.close
     (tie.spec
-    invariant-loop
-    decreases-loop
+    invariant-loop-i
+    decreases-loop-i
     (λ c. printed_none)
-    (λ c. c.before.before.loop.invariant.size)
+    (λ c. c.loop-i.invariant.size)
     returns
     (λ c. omega arith)
     (λ c. omega arith)
@@ -38,5 +38,5 @@ put-numbers-spec =
     (λ c. omega arith)
     (λ c. omega arith)
     loop-again
-    (λ c. c.before.loop.invariant.size)
+    (λ c. c.loop-i.invariant.size)
     returns-2)
