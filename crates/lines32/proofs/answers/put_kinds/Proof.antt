@@ -6,20 +6,20 @@ use lib.ListN.{length}
 use Rattle.lines32.proofs.answers.put_kinds.Statement.{statement}
 use Rattle.lines32.proofs.answers.put_kinds.Tie as tie
 
-abbrev invariant-loop : tie.invariant-loop
-invariant-loop out₀ used n kinds at₀ i₀ out at i = length out ≡ length out₀
+abbrev invariant-loop-i : tie.invariant-loop-i
+invariant-loop-i out₀ used n kinds at₀ i₀ out at i = length out ≡ length out₀
 
-abbrev decreases-loop : tie.decreases-loop
-decreases-loop out₀ used n kinds at₀ i₀ out at i = n - i
+abbrev decreases-loop-i : tie.decreases-loop-i
+decreases-loop-i out₀ used n kinds at₀ i₀ out at i = n - i
 
-pub put-kinds-spec : {M : Type 1} → statement M
-put-kinds-spec =
+pub put_kinds_spec : {M : Type 1} → statement M
+put_kinds_spec =
     tie.close
     (tie.spec
-    invariant-loop
-    decreases-loop
+    invariant-loop-i
+    decreases-loop-i
     (λ c. refl)
-    (λ c. c.before.before.loop.invariant)
+    (λ c. c.loop-i.invariant)
     (λ c. tt)
     (λ c. omega arith)
     (λ c. omega arith)
@@ -27,5 +27,5 @@ put-kinds-spec =
     (λ c. omega arith)
     (λ c. omega arith)
     (λ c. omega arith)
-    (λ c. c.before.loop.invariant)
+    (λ c. c.loop-i.invariant)
     (λ c. tt))

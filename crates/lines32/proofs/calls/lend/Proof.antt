@@ -6,8 +6,8 @@ use lib.Seq.{length-take-le}
 use Rattle.lines32.proofs.calls.lend.Statement.{statement}
 use Rattle.lines32.proofs.calls.lend.Tie as tie
 
-slice-aggregate-with-buffer : tie.Need-slice-aggregate-with-buffer
-slice-aggregate-with-buffer c = sym (length-take-le _ _ (omega (arith, c.before.marked.ensures.0, c.before.before.if1.false)))
+slice-aggregate-with-buffer : tie.Need-slice_bounds-with_buffer-end
+slice-aggregate-with-buffer c = sym (length-take-le _ _ (omega (arith, c.marked-buffer.ensures.0, c.if-value-gt512.false)))
 
 pub lend_spec : {M : Type 1} → statement M
 lend_spec =
