@@ -23,6 +23,7 @@ module _ (c : Call) where
 
   -- so whatever is met first is one of them
   pub met_by_step : {r : Refusal} {vs : List Result} → StepsOwn vs → FirstFails r vs → ByStep c r
+  met_by_step end w = elim w [ ]
   met_by_step (and h e) (now b) = h
   met_by_step (and h e) (later n w) = met_by_step e w
 

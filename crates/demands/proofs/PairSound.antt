@@ -130,4 +130,4 @@ module _ (f : Format) where
   pub pair_finite : (p : Pair) → PairYielded f p → (cs : List SideCall) → Each (λ t. all_finite (handed_out t.told) ≡ true) (pair_told f p cs)
   unfolding pair_told pair_tells
   pair_finite p y [] = end
-  pair_finite p y (t ∷ ts) = and (side_finite p t.side t.call (sound f (side_yielded y t.side))) (pair_finite _ (pair_stepped y t.side t.call) ts)
+  pair_finite p y (t ∷ ts) = and (side_finite p t.side t.call (sound f (side_yielded y t.side))) (pair_finite (pair_step f p t.side t.call).pair (pair_stepped y t.side t.call) ts)

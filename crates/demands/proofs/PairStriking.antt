@@ -105,7 +105,7 @@ module _ (f : Format) where
   run_same p q e [] = refl
   run_same p q e (t ∷ ts) =
       let clear : (v : Side) → reaches t.side t.call v ≡ true → nobody v ≡ false = λ v h. refl in
-      ap₂ ◌∷◌ (kept_told nobody p q e t.side t.call clear) (run_same _ _ (kept_beside nobody p q e t.side t.call clear) ts)
+      ap₂ ◌∷◌ (kept_told nobody p q e t.side t.call clear) (run_same (pair_step f p t.side t.call).pair (pair_step f q t.side t.call).pair (kept_beside nobody p q e t.side t.call clear) ts)
 
   pub pair_left_over : (p q : Pair) → AlikePairs p q → (cs : List SideCall) → pair_told f p cs ≡ pair_told f q cs
   pair_left_over p q a cs = run_same p q (alike_beside p q a) cs

@@ -37,6 +37,7 @@ Others r [] = Unit {0}
 Others r (v ∷ vs) = (refusal_of v ≡ r → ⊥) × Others r vs
 
 others_never : (r : Refusal) (vs : List Result) → Others r vs → FirstFails r vs → ⊥
+others_never r [] o w = elim w [ ]
 others_never r (v ∷ vs) o (now b) = o.0 refl
 others_never r (v ∷ vs) o (later m w) = others_never r vs o.1 w
 
@@ -50,6 +51,7 @@ behind r vs ws o = (cut r vs o, keep r vs)
     cut r (v ∷ vs) o (later m w) = later m (cut r vs o w)
 
     keep : (r : Refusal) (vs : List Result) → FirstFails r vs → FirstFails r (vs ++ ws)
+    keep r [] w = elim w [ ]
     keep r (v ∷ vs) (now b) = now b
     keep r (v ∷ vs) (later m w) = later m (keep r vs w)
 

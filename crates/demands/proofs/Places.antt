@@ -72,6 +72,7 @@ search_words (x ∷ l) r e = go (searched_from x.name 0 x.numbers) refl (search_
 
 -- what passes has none
 passed_none : (l : List Input) → Pass finite_in l → Some (λ (x : Input). Some NotFinite x.numbers) l → ⊥
+passed_none [] h w = elim w [ ]
 passed_none (x ∷ l) h (here w) = no_some x.numbers h.0 w
 passed_none (x ∷ l) h (there w) = passed_none l h.1 w
 
@@ -88,6 +89,7 @@ whence (further n w) = there (whence w)
 -- and by none else
 pub words_search : {s : Slice} {i : ℕ} (l : List Input) → FirstBad s i l → searched l ≡ refused (NUMBER s i)
 unfolding searched
+words_search [] w = elim w [ ]
 words_search {i = i} (x ∷ l) (found w) = let z : 0 + i ≡ i = omega arith in rw (words_slice x.name 0 x.numbers i w, z)
 words_search (x ∷ l) (further n w) = rw (none_bad x.name 0 x.numbers (passes_where (all_finite_lem x.numbers) n)) (words_search l w)
 

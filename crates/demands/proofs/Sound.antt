@@ -30,7 +30,7 @@ use Rattle.filter.specs.Asked.{by_params, by_kind, fit, every, guarded}
 use Rattle.filter.specs.Filters.{filter, is_shut, is_stepped, seen, Writing, q_set, params_set, kinds_set, Setting, x_set, p_set, opened_prediction, opened_correction, opened_prediction_stepped, opened_correction_stepped, Change, writes, sets, closes, keeps, abandons, reads, with_drawn, changed}
 use Rattle.filter.specs.Calls.{Call, halves, values_of, as_kinds, asks, Done, plan}
 use Rattle.filter.specs.Steps.{outcome, stepped, step}
-use Rattle.filter.specs.New.{fresh_sheet, fresh_track, empty, from, new_asks, new_of, new_answer}
+use Rattle.filter.specs.New.{fresh_sheet, fresh_track, empty, from, new_asks, sheet_from, track_from, new_of, new_answer}
 use Rattle.filter.specs.Records.{numbers}
 use Rattle.filter.specs.Load.{turn_inputs, states_in, numbers_in, each_kind, filter_in, load_asks, load_of, load_answer}
 use Rattle.stepped.proofs.Seen.{stepped_open}
@@ -76,7 +76,7 @@ module _ (f : Format) where
     pub new_sound : Sound f (new_answer f n x p q params).filter
     unfolding new_of
     new_sound =
-        by_cases (λ o. Sound f (or empty o)) (λ r. empty_sound) f (new_asks n (from x p ∷ []) q params) _ (λ h.
+        by_cases (λ o. Sound f (or empty o)) (λ r. empty_sound) f (new_asks n (from x p ∷ []) q params) (accepted (filter (sheet_from n q params) (track_from n (from x p)))) (λ h.
         let small = (in_range_lem 1 8 n h.sizes.0).1 in
         let i = h.inputs in
         fresh_sound n _ _ _ params small
