@@ -19,7 +19,7 @@ use Rattle.floats.proofs.is_finite.Reads as is_finite
 use Rattle.floats.proofs.is_above_zero.Kinds as is_above_zero_of
 use Rattle.floats.proofs.is_above_zero.Reads as is_above_zero
 use Rattle.floats.proofs.all_finite.Kinds as all_finite_of
-use Rattle.floats.proofs.all_finite.Reads as all_finite_lem
+use Rattle.floats.proofs.all_finite.Reads as all_finite
 use Rattle.floats.proofs.placeless.Kinds as placeless_of
 use Rattle.floats.proofs.placeless.Reads as placeless
 use Rattle.floats.proofs.earlier.Kinds as earlier_of
@@ -37,7 +37,7 @@ use Rattle.angles.proofs.wrap.Reads as wrap
 use Rattle.angles.proofs.through_kind.Kinds as through_kind_of
 use Rattle.angles.proofs.through_kind.Reads as through_kind
 use Rattle.angles.proofs.half_of.Kinds as half_of_of
-use Rattle.angles.proofs.half_of.Reads as half_of_lem
+use Rattle.angles.proofs.half_of.Reads as half_of
 use Rattle.angles.proofs.kind_passes.Kinds as kind_passes_of
 use Rattle.angles.proofs.kind_passes.Reads as kind_passes
 use Rattle.angles.proofs.kind_refusal.Kinds as kind_refusal_of
@@ -70,7 +70,7 @@ use Rattle.sigma.proofs.weights.scale.Kinds as scale_of
 use Rattle.sigma.proofs.weights.scale.Reads as scale
 use Rattle.sigma.proofs.weights.center_weight.Kinds as center_weight_of
 use Rattle.sigma.proofs.weights.center_weight.Reads as center_weight
-use Rattle.sigma.proofs.weights.weights.Kinds as weights_of_lem
+use Rattle.sigma.proofs.weights.weights.Kinds as weights_of
 use Rattle.sigma.proofs.weights.weights.Reads as weights
 use Rattle.sigma.proofs.weights.weights_pass.Kinds as weights_pass_of
 use Rattle.sigma.proofs.weights.weights_pass.Reads as weights_pass
@@ -101,7 +101,7 @@ use Rattle.filter.proofs.checks.is_predicting.Reads as is_predicting
 use Rattle.filter.proofs.checks.is_correcting.Kinds as is_correcting_of
 use Rattle.filter.proofs.checks.is_correcting.Reads as is_correcting
 use Rattle.filter.proofs.checks.in_range.Kinds as in_range_of
-use Rattle.filter.proofs.checks.in_range.Reads as in_range_lem
+use Rattle.filter.proofs.checks.in_range.Reads as in_range
 use Rattle.filter.proofs.checks.is_sized.Kinds as is_sized_of
 use Rattle.filter.proofs.checks.is_sized.Reads as is_sized
 use Rattle.filter.proofs.checks.both.Kinds as both_of
@@ -261,7 +261,7 @@ is_finite_one κs a z z' w w' p q = (by p q, refl)
 pub is_above_zero_one : OneAnswer is_above_zero_of.ps is_above_zero_of.r is_above_zero.Learnt
 is_above_zero_one κs a z z' w w' p q = (by p q, refl)
 
-pub all_finite_one : OneAnswer all_finite_of.ps all_finite_of.r all_finite_lem.Learnt
+pub all_finite_one : OneAnswer all_finite_of.ps all_finite_of.r all_finite.Learnt
 all_finite_one κs a z z' w w' p q = (by p q, refl)
 
 pub placeless_one : OneAnswer placeless_of.ps placeless_of.r placeless.Learnt
@@ -288,7 +288,7 @@ wrap_one κs a z z' w w' p q = (by p q, refl)
 pub through_kind_one : OneAnswer through_kind_of.ps through_kind_of.r through_kind.Learnt
 through_kind_one κs a z z' w w' p q = (by p q, refl)
 
-pub half_of_one : OneAnswer half_of_of.ps half_of_of.r half_of_lem.Learnt
+pub half_of_one : OneAnswer half_of_of.ps half_of_of.r half_of.Learnt
 half_of_one κs a z z' w w' p q = (by p q, refl)
 
 pub kind_passes_one : OneAnswer kind_passes_of.ps kind_passes_of.r kind_passes.Learnt
@@ -339,7 +339,7 @@ scale_one κs a z z' w w' p q = (by p q, refl)
 pub center_weight_one : OneAnswer center_weight_of.ps center_weight_of.r center_weight.Learnt
 center_weight_one κs a z z' w w' p q = (by p q, refl)
 
-pub weights_one : OneAnswer weights_of_lem.ps weights_of_lem.r weights.Learnt
+pub weights_one : OneAnswer weights_of.ps weights_of.r weights.Learnt
 weights_one κs a z z' w w' p q = (by p q, refl)
 
 pub weights_pass_one : OneAnswer weights_pass_of.ps weights_pass_of.r weights_pass.Learnt
@@ -384,7 +384,7 @@ is_predicting_one κs a z z' w w' p q = (by p q, refl)
 pub is_correcting_one : OneAnswer is_correcting_of.ps is_correcting_of.r is_correcting.Learnt
 is_correcting_one κs a z z' w w' p q = (by p q, refl)
 
-pub in_range_one : OneAnswer in_range_of.ps in_range_of.r in_range_lem.Learnt
+pub in_range_one : OneAnswer in_range_of.ps in_range_of.r in_range.Learnt
 in_range_one κs a z z' w w' p q = (by p q, refl)
 
 pub is_sized_one : OneAnswer is_sized_of.ps is_sized_of.r is_sized.Learnt

@@ -12,19 +12,19 @@ use Rattle.floats32.proofs.is_finite.Reads as is_finite
 use Rattle.floats32.proofs.is_above_zero.Kinds as is_above_zero_of
 use Rattle.floats32.proofs.is_above_zero.Reads as is_above_zero
 use Rattle.floats32.proofs.all_finite.Kinds as all_finite_of
-use Rattle.floats32.proofs.all_finite.Reads as all_finite_lem
+use Rattle.floats32.proofs.all_finite.Reads as all_finite
 use Rattle.floats32.proofs.first_bad.Kinds as first_bad_of
 use Rattle.floats32.proofs.first_bad.Reads as first_bad
 use Rattle.floats32.proofs.next_bad.Kinds as next_bad_of
 use Rattle.floats32.proofs.next_bad.Reads as next_bad
 use Rattle.root32.proofs.square_root.Kinds as square_root_of
 use Rattle.root32.proofs.square_root.Reads as square_root
-use Rattle.angles32.proofs.wrap.Kinds as wrap_of_lem
+use Rattle.angles32.proofs.wrap.Kinds as wrap_of
 use Rattle.angles32.proofs.wrap.Reads as wrap
 use Rattle.angles32.proofs.through_kind.Kinds as through_kind_of
 use Rattle.angles32.proofs.through_kind.Reads as through_kind
 use Rattle.angles32.proofs.half_of.Kinds as half_of_of
-use Rattle.angles32.proofs.half_of.Reads as half_of_lem
+use Rattle.angles32.proofs.half_of.Reads as half_of
 use Rattle.angles32.proofs.kind_passes.Kinds as kind_passes_of
 use Rattle.angles32.proofs.kind_passes.Reads as kind_passes
 use Rattle.angles32.proofs.kind_refusal.Kinds as kind_refusal_of
@@ -49,7 +49,7 @@ use Rattle.sigma32.proofs.weights.scale.Kinds as scale_of
 use Rattle.sigma32.proofs.weights.scale.Reads as scale
 use Rattle.sigma32.proofs.weights.center_weight.Kinds as center_weight_of
 use Rattle.sigma32.proofs.weights.center_weight.Reads as center_weight
-use Rattle.sigma32.proofs.weights.weights.Kinds as weights_of_lem
+use Rattle.sigma32.proofs.weights.weights.Kinds as weights_of
 use Rattle.sigma32.proofs.weights.weights.Reads as weights
 use Rattle.sigma32.proofs.weights.weights_pass.Kinds as weights_pass_of
 use Rattle.sigma32.proofs.weights.weights_pass.Reads as weights_pass
@@ -142,7 +142,7 @@ is_finite_one κs a z z' w w' p q = (by p q, refl)
 pub is_above_zero_one : OneAnswer is_above_zero_of.ps is_above_zero_of.r is_above_zero.Learnt
 is_above_zero_one κs a z z' w w' p q = (by p q, refl)
 
-pub all_finite_one : OneAnswer all_finite_of.ps all_finite_of.r all_finite_lem.Learnt
+pub all_finite_one : OneAnswer all_finite_of.ps all_finite_of.r all_finite.Learnt
 all_finite_one κs a z z' w w' p q = (by p q, refl)
 
 pub first_bad_one : OneAnswer first_bad_of.ps first_bad_of.r first_bad.Learnt
@@ -154,13 +154,13 @@ next_bad_one κs a z z' w w' p q = (by p q, refl)
 pub square_root_one : OneAnswer square_root_of.ps square_root_of.r square_root.Learnt
 square_root_one κs a z z' w w' p q = (one_root z z' (one_case (wide_root z) (wide_root z') (by p q)), refl)
 
-pub wrap_one : OneAnswer wrap_of_lem.ps wrap_of_lem.r wrap.Learnt
+pub wrap_one : OneAnswer wrap_of.ps wrap_of.r wrap.Learnt
 wrap_one κs a z z' w w' p q = (one_wrapped (by p q), refl)
 
 pub through_kind_one : OneAnswer through_kind_of.ps through_kind_of.r through_kind.Learnt
 through_kind_one κs a z z' w w' p q = (by p q, refl)
 
-pub half_of_one : OneAnswer half_of_of.ps half_of_of.r half_of_lem.Learnt
+pub half_of_one : OneAnswer half_of_of.ps half_of_of.r half_of.Learnt
 half_of_one κs a z z' w w' p q = (by p q, refl)
 
 pub kind_passes_one : OneAnswer kind_passes_of.ps kind_passes_of.r kind_passes.Learnt
@@ -199,7 +199,7 @@ scale_one κs a z z' w w' p q = (by p q, refl)
 pub center_weight_one : OneAnswer center_weight_of.ps center_weight_of.r center_weight.Learnt
 center_weight_one κs a z z' w w' p q = (by p q, refl)
 
-pub weights_one : OneAnswer weights_of_lem.ps weights_of_lem.r weights.Learnt
+pub weights_one : OneAnswer weights_of.ps weights_of.r weights.Learnt
 weights_one κs a z z' w w' p q = (by p q, refl)
 
 pub weights_pass_one : OneAnswer weights_pass_of.ps weights_pass_of.r weights_pass.Learnt
