@@ -1,7 +1,7 @@
 -- Nothing left over counts: a run on two alike filters tells the same; and striking refused calls, or an open with everything up to its abandon, changes none of the rest.
 -- No law here goes by the calls: a step is a change worked out from what is seen, and the laws go by the changes. Assumes nothing.
 use mathlib.Core.Path.{◌≡◌, refl, sym, ap, ap₂, ◌∙◌, subst}
-use mathlib.Core.Bool.{Bool, true, false, not, cond}
+use mathlib.Core.Bool.{Bool, true, false, cond}
 use mathlib.Core.List.{List, [], ◌∷◌, ◌++◌}
 use lib.Ieee.{Format}
 use Rattle.floats.specs.Numbers.{all_finite}

@@ -14,7 +14,7 @@ use Rattle.pairs.specs.declared.Pair.{Pair}
 use Rattle.pairs.specs.declared.Side.{Side}
 use Rattle.pairs.specs.declared.Side.TheVariants.{First, Second}
 use Rattle.pairs.specs.Pairs.{track_at, solo, on_sheet, pair_outcome, leaves, pair_step}
-use Rattle.demands.specs.PairRuns.{other, same, on, barred, reaches}
+use Rattle.demands.specs.PairRuns.{other, on, barred, reaches}
 use Rattle.demands.proofs.Rows.{two_ways}
 use Rattle.demands.proofs.Table.{Own}
 use Rattle.demands.proofs.Leftover.{stepped_reply, step_cases}

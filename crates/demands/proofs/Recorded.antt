@@ -9,7 +9,7 @@ use lib.Dec.{leb, eqb}
 use lib.ListN.{length, take, drop, get_or, replicate, length-append, length-drop}
 use lib.Ieee.{Float, Format, binary64, of_bits}
 use Rattle.floats.specs.declared.Slice.TheVariants.{State, Covariance, Noise, Lone}
-use Rattle.floats.specs.Refusal.{taken, Outcome, accepted, refusal}
+use Rattle.floats.specs.Refusal.{taken, Outcome, accepted}
 use Rattle.floats.specs.Search.{Input, input, searched}
 use Rattle.floats.specs.Numbers.{zeros, all_finite}
 use Rattle.floats.specs.Fronts.{over}

@@ -23,7 +23,7 @@ use Rattle.pieces.specs.Bytes.{AreBytes, little_endian, word_of, written, read_e
 use Rattle.pieces.proofs.Laws.{bytes_drop, length_read, length_written, read_written, read_all, written_read}
 use Rattle.pieces.proofs.Back.{length_number, length_kind, number_back, number_again, kind_back, kind_formed, sound, kind_again, each_finite}
 use Rattle.filter.specs.declared.Filter.{Filter}
-use Rattle.filter.specs.Asked.{by_params, by_kind, in_range, long, fit, every, guarded}
+use Rattle.filter.specs.Asked.{by_params, by_kind, in_range, fit, every, guarded}
 use Rattle.filter.specs.Records.{numbers_of, bytes_of, numbers, record_length}
 use Rattle.filter.specs.Calls.{halves, as_kinds, values_of}
 use Rattle.filter.specs.New.{from, inputs_for}

@@ -31,7 +31,7 @@ use Rattle.filter.specs.declared.Sheet.{Sheet}
 use Rattle.filter.specs.declared.Weighted.{Weighted}
 use Rattle.filter.specs.declared.Filter.{Filter}
 use Rattle.filter.specs.declared.Answer.{Answer}
-use Rattle.filter.specs.Asked.{Asks, in_range, within, long, every, guarded}
+use Rattle.filter.specs.Asked.{Asks, in_range, within, every, guarded}
 use Rattle.filter.specs.Filters.{filter, close, is_predicting_stepped, is_correcting_stepped, is_stepped, keeping, nothing_kept, seen, Setting, opened_prediction, opened_correction, opened_correction_stepped, with_drawn, with_kept}
 use Rattle.filter.specs.Calls.{open_correction_stepped, ask, image_prediction, image_correction, SteppedClose, close_prediction_stepped, close_correction_stepped, close_correction_flat_stepped, with_list, Call, setting, stepping, closing, closing_stepped, CloseCall, fits, halves, named, named_by, asks, Done, opened, opened_stepped, asked_for, handed_in, closed, close_plan, plan}
 use Rattle.filter.specs.Steps.{Stepped, stepped, step, answered}
