@@ -312,7 +312,7 @@ module _ (f : Format) where
   pub stepped_close_taken_when : {s : Filter} → Yielded f s → (c : SteppedClose) → ((step f s (closing_stepped c)).reply.refusal ≡ taken) ↔ ((d : Cause) → Applies f (stepped_asks (seen s) c) (planned (plan f (seen s) (closing_stepped c))) d → ⊥)
   stepped_close_taken_when {s} y = stepped_taken f s (sound f y)
 
-  -- The steps of a stepped call are those of the whole-list one, of a close on the images; so its own numbers, 7, 8, 9 and the places beside them, come as below. (What else is said below of the whole-list opens and closes holds of the stepped ones by `open-is-whole` and `close-is-whole` in EitherWay.)
+  -- The steps of a stepped call are those of the whole-list one, of a close on the images; so its own numbers, 7, 8, 9 and the places beside them, come as below. (What else is said below of the whole-list opens and closes holds of the stepped ones by `open_is_whole` and `close_is_whole` in EitherWay.)
   pub listed_at_stepped_open : (s : Filter) (b : List Float) → (planned (plan f s (setting open_prediction_stepped)) ≡ planned (plan f s (setting (open_prediction b)))) × (planned (plan f s (setting open_correction_stepped)) ≡ planned (plan f s (setting (open_correction b))))
   listed_at_stepped_open s b = (open_prediction_stepped_lists f s ∙ sym (open_prediction_lists f s b), open_correction_stepped_lists f s ∙ sym (open_correction_lists f s b))
 
@@ -328,18 +328,18 @@ module _ (f : Format) where
   pub one_first_bad : {s t : Slice} {i j : ℕ} {l : List Input} → FirstBad s i l → FirstBad t j l → NUMBER s i ≡ NUMBER t j
   one_first_bad = one_bad
 
-  -- what a call searches, in this order. A close of a correction: R, the observed points, z, and then the half-turns of its own kinds, of which the flat one has none. A call that sets, an image, and the close of a prediction: the one slice that it is lent, or its lone values. The opens, asks, abandon and the readings: nothing. (A stepped close is said to search the images that are in, as its steps read them; they are finite, so that it is R, z and the half-turns that it finds bad: `stepped-close-exactly-when`.)
+  -- what a call searches, in this order. A close of a correction: R, the observed points, z, and then the half-turns of its own kinds, of which the flat one has none. A call that sets, an image, and the close of a prediction: the one slice that it is lent, or its lone values. The opens, asks, abandon and the readings: nothing. (A stepped close is said to search the images that are in, as its steps read them; they are finite, so that it is R, z and the half-turns that it finds bad: `stepped_close_exactly_when`.)
   pub searched_by : (s : Filter) (c : Call) → (asks s c).inputs ≡ searches s c
   searched_by = searches_so
 
-  -- That is slice after slice in the order of their numbers, and so does New search (New of a pair takes the second start right after the first: `new-asks` in Pairs; load searches as New does, and then each half-turn by itself: `load_asks` in Records);
+  -- That is slice after slice in the order of their numbers, and so does New search (New of a pair takes the second start right after the first: `new_asks_lem` in Pairs; load searches as New does, and then each half-turn by itself: `load_asks_lem` in Records);
   pub searched_in_turn : (s : Filter) (c : Call) → Ascending 50 (asks s c).inputs
   searched_in_turn s c = rw (searches_so s c) (ascending s c)
 
   pub new_searched_in_turn : (n : ℕ) (x p q : List Float) (params : Params) → Ascending 50 (new_asks n (from x p ∷ []) q params).inputs
   new_searched_in_turn n x p q params = (omega arith, (omega arith, (omega arith, (omega arith, tt))))
 
-  -- So one of 51 to 56 is given at place i exactly when nothing is refused before the search (`Free`), and that is the slice and the place of the first bad number. (Opens search nothing; on a filter that the demands don't speak of one may give 56 at 0, for an N without a root: `opening-gives-neither` below.)
+  -- So one of 51 to 56 is given at place i exactly when nothing is refused before the search (`Free`), and that is the slice and the place of the first bad number. (Opens search nothing; on a filter that the demands don't speak of one may give 56 at 0, for an N without a root: `opening_gives_neither` below.)
   pub number_when : (s : Filter) (c : Call) → (IsOpen c → ⊥) → (t : Slice) (i : ℕ) → ((step f s c).reply.refusal ≡ verdict (NUMBER t i)) ↔ (Free f 6 s c × FirstBad t i (searches s c))
   number_when = number_exactly f
 

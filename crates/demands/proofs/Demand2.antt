@@ -67,7 +67,7 @@ at l i = get_or l i nan
 cell_before : (i k n j : ℕ) → i < k → j < n → i * n + j < k * n
 cell_before i k n j h l = omega (arith, row_before i k n h)
 
--- ---- Root: `square_root` (crates root, root32) is `rootOutcome`: `rootOf`, or 56 at 0
+-- ---- Root: `square_root` (crates root, root32) is `root_outcome`: `root_of`, or 56 at 0
 
 -- no value of the format is nearer to the exact root
 pub root_nearest : (f : Format) (x : Float) → T (fits f x) → T (rooted x) → Nearest f x (root_of f x)
@@ -85,7 +85,7 @@ pub root_one : (x : Float) (a b : Root) → T (fits binary64 x) → Asked binary
 root_one x a b h k l = one_case a b (asked_only binary64 x (outcome_of a) h k ∙ sym (asked_only binary64 x (outcome_of b) h l))
 
 module _ (f : Format) where
-  -- ---- Wrap: `wrap` (crate angles) is `wrapOf`; `through_kind` is `throughOf`
+  -- ---- Wrap: `wrap` (crate angles) is `wrap_of`; `through_kind` is `through_of`
 
   -- result and d differ by a whole multiple of 2h, and −h < result ≤ h; a zero has the sign of d
   pub wrap_is_exact : (d h : Float) → T (fits f d) → T (fits f h) → (wrapped (wrap_of f d h)).refusal.number ≡ 0 → Wraps f d h (wrapped (wrap_of f d h)).value
@@ -106,7 +106,7 @@ module _ (f : Format) where
   pivot_held a e zero h = h
   pivot_held a e (suc j) h = sub-fits f (total_of (sub f) a e j) (e j)
 
-  -- ---- Weights: `compute_weights` (crate sigma) is `lambdaOf`, `scale_of`, `w0mOf`, `w0cOf` and `wiOf`, the document's own lines; `weights` is `weightsOf`
+  -- ---- Weights: `compute_weights` (crate sigma) is `lambda_of`, `scale_of`, `w0m_of`, `w0c_of` and `wi_of`, the document's own lines; `weights` is `weights_of`
 
   -- kept with the points: w0c at k = 0 and else wi
   module _ (n : ℕ) (p : Params) (h : n ≤ 8) where
@@ -116,7 +116,7 @@ module _ (f : Format) where
     pub weight_at : (k : ℕ) → 0 < k → k ≤ n + n → at (weights_of f n p) k ≡ wi_of f n p
     weight_at = weight_other f n p h
 
-  -- ---- Factor: `cholesky_decompose_lower` (crate matrix) is `factorOf`
+  -- ---- Factor: `cholesky_decompose_lower` (crate matrix) is `factor_of`
 
   -- L[j][j] is the root of the pivot; under it A[i][j] less the products in turn, divided by L[j][j]; above it +0
   module _ (r : ℕ → Refusal) (a : List Float) (n : ℕ) (h : n ≤ 8) (l : List Float) (e : worked (factor_of f r a n) ≡ accepted l) where
@@ -129,7 +129,7 @@ module _ (f : Format) where
     pub factor_above : (i j : ℕ) → i < j → j < n → at l (i * n + j) ≡ plus_zero
     factor_above = (is_factor f r a n h l e).upper
 
-  -- ---- Draw: `generate_sigma_points` (crate sigma) is `drawPlan`, run
+  -- ---- Draw: `generate_sigma_points` (crate sigma) is `draw_plan`, run
 
   -- accepted, it has made the points of the factor of P and the root of N
   pub draw_makes : (n : ℕ) (x p : List Float) (scale : Float) (v : List Float) → run (draw_plan f n x p scale) ≡ accepted v → v ≡ points_of f n x (product (factor_of f PIVOT p n)) (root_of f scale)
@@ -154,7 +154,7 @@ module _ (f : Format) where
         let e : j + 1 + n - 1 - n ≡ j = omega arith in
         (drawn_filled f n x l s h).cell (j + 1 + n) i (omega arith) g ∙ point_minus f n x l s (j + 1 + n) i (omega arith) ∙ ap (λ (c : ℕ). sub f (at x i) (mul f s (at l (i * n + c)))) e
 
-  -- ---- Anchored mean: `anchored_mean` (crate sigma) is `meanOf`
+  -- ---- Anchored mean: `anchored_mean` (crate sigma) is `mean_of`
 
   -- weightsum·point0 + offset, over the points 1 to t, t being 2n
   pub mean_at : (p : List Float) (d t : ℕ) (w0m : Float) (w : List Float) (kinds : List Kind) → d ≤ 8 → (i : ℕ) → i < d
@@ -163,7 +163,7 @@ module _ (f : Format) where
       (total_of (add f) plus_zero (λ (k : ℕ). mul f (at w (k + 1)) (through_of f (get_or kinds i plain) (sub f (at p ((k + 1) * d + i)) (at p i)))) t)
   mean_at p d t w0m w kinds h = (mean_placed f p d t w0m w kinds h).place
 
-  -- ---- Covariance, S and the cross covariance: `deviations` and `spread` (crate sigma) are `deviationsOf` and `spread_of`; `plus` (crate matrix) is `plusOf`
+  -- ---- Covariance, S and the cross covariance: `deviations` and `spread` (crate sigma) are `deviations_of` and `spread_of`; `plus` (crate matrix) is `plus_of`
 
   -- point minus mean through the kinds
   pub deviation_at_lem : (p : List Float) (d t : ℕ) (mean : List Float) (kinds : List Kind) → t < 17 → d ≤ 8 → (k i : ℕ) → k < t + 1 → i < d
@@ -179,15 +179,15 @@ module _ (f : Format) where
   pub plus_at : (n : ℕ) (q p : List Float) → n ≤ 8 → (i : ℕ) → i < n * n → at (plus_of f (n * n) q p) i ≡ add f (at q i) (at p i)
   plus_at n q p h = (plus_placed f (n * n) q p (mul-le-mul h h)).place
 
-  -- `reconstruct_prediction` (crate sigma) is `predictPlan`, run: accepted, it has made the mean, and Q + P
+  -- `reconstruct_prediction` (crate sigma) is `predict_plan`, run: accepted, it has made the mean, and Q + P
   pub prediction_makes : (n : ℕ) (points : List Float) (w0m : Float) (w : List Float) (kinds : List Kind) (q : List Float) (m : Moment) → run (predict_plan f n points w0m w kinds q) ≡ accepted m
       → m ≡ (let mean = mean_of f points n (n + n) w0m w kinds in let dx = deviations_of f points n (n + n) mean kinds in record { x = mean; p = plus_of f (n * n) q (spread_of f dx n dx n w (n + n)) })
   prediction_makes n points w0m w kinds q m e = ran_made (predict_plan f n points w0m w kinds q) m e
 
-  -- ---- Inverse: `invert_l_cholesky` (crate matrix) is `inverseOf`
+  -- ---- Inverse: `invert_l_cholesky` (crate matrix) is `inverse_of`
 
   module _ (l : List Float) (m : ℕ) (h : m ≤ 8) (i c : ℕ) (g : i < m) where
-    -- u[i] = (1 if i = c, else 0, minus L[i][k]·u[k] for k below i in turn)/L[i][i], u being `forwardOf`
+    -- u[i] = (1 if i = c, else 0, minus L[i][k]·u[k] for k below i in turn)/L[i][i], u being `forward_of`
     pub inverse_forward : at (forward_of f l m c) i ≡ div f (total_of (sub f) (unit_at f c i) (λ (k : ℕ). mul f (at l (i * m + k)) (at (forward_of f l m c) k)) i) (at l (i * m + i))
     inverse_forward = forward_at_lem f l m h c i g
 
@@ -200,14 +200,14 @@ module _ (f : Format) where
         ∙ ap (λ (t : Float). div f t (at l (i * m + i)))
         (total_same (sub f) (at (forward_of f l m c) i) _ _ (m - (i + 1)) (λ j q. ap (mul f (at l ((i + 1 + j) * m + i))) (sym ((inverse_filled f l m h).cell (i + 1 + j) c (omega arith) k))))
 
-  -- ---- Gain and T: `mult_transb` (crate matrix) is `transbOf`
+  -- ---- Gain and T: `mult_transb` (crate matrix) is `transb_of`
 
   -- K[i][j] = sum of C[i][k]·V[j][k]; T[i][j] = sum of C[i][k]·K[j][k]
   pub transb_at : (a b : List Float) (d n m : ℕ) → n ≤ 8 → m ≤ 8 → (i j : ℕ) → i < n → j < m
       → at (transb_of f a b d n m) (i * m + j) ≡ total_of (add f) plus_zero (λ (k : ℕ). mul f (at a (i * d + k)) (at b (j * d + k))) d
   transb_at a b d n m g h = (transb_filled f a b d n m g h).cell
 
-  -- ---- y, x and P: `innovation` and `shifted` (crate correction) are `innovationOf` and `shiftedOf`; `minus` (crate matrix) is `minusOf`
+  -- ---- y, x and P: `innovation` and `shifted` (crate correction) are `innovation_of` and `shifted_of`; `minus` (crate matrix) is `minus_of`
 
   -- y = z − z mean, through the measurement kinds
   pub innovation_at_lem : (m : ℕ) (z mean : List Float) (kinds : List Kind) → m ≤ 8 → (j : ℕ) → j < m → at (innovation_of f m z mean kinds) j ≡ through_of f (get_or kinds j plain) (sub f (at z j) (at mean j))
@@ -223,11 +223,11 @@ module _ (f : Format) where
   pub minus_at : (n : ℕ) (p t : List Float) → n ≤ 8 → (i : ℕ) → i < n * n → at (minus_of f (n * n) p t) i ≡ sub f (at p i) (at t i)
   minus_at n p t h = (minus_placed f (n * n) p t (mul-le-mul h h)).place
 
-  -- `apply_correction` (crate correction), which both closes end in, is `applyPlan`, run: accepted, it has made the x and P at the end of the chain that specs/Listed.antt writes out
+  -- `apply_correction` (crate correction), which both closes end in, is `apply_plan`, run: accepted, it has made the x and P at the end of the chain that specs/Listed.antt writes out
   pub correction_makes : (h : Head) (m : Moment) → run (apply_plan f h) ≡ accepted m → m ≡ record { x = state f h; p = covariance f h }
   correction_makes h m e = ran_made (apply_plan f h) m e
 
-  -- ---- From where they start. `correct_with_weights_residuals` is `correctPlan`, the shared steps from `weightedHead` on: anchored means; per entry of S, R + the sum of w·dz[i]·dz[j]; of C, the sum of w·dx[i]·dz[j]
+  -- ---- From where they start. `correct_with_weights_residuals` is `correct_plan`, the shared steps from `weighted_head` on: anchored means; per entry of S, R + the sum of w·dz[i]·dz[j]; of C, the sum of w·dx[i]·dz[j]
 
   module _ (g : Given) (h : g.n ≤ 8) (o : g.m ≤ 8) where
     abbrev weighted : Head
@@ -250,7 +250,7 @@ module _ (f : Format) where
     pub weighted_keeps : (weighted.n ≡ g.n) × (weighted.m ≡ g.m) × (weighted.x ≡ g.x) × (weighted.p ≡ g.p) × (weighted.z ≡ g.z) × (weighted.measured ≡ g.measured)
     weighted_keeps = (refl, refl, refl, refl, refl, refl)
 
-  -- The flat close (document 02, A1). `correct_nonlinear` is `flatPlan`, the shared steps from `flatHead` on: per entry a sum from +0 over all 2n+1 points, divided by 2n+1; no kinds, no weights
+  -- The flat close (document 02, A1). `correct_nonlinear` is `flat_plan`, the shared steps from `flat_head` on: per entry a sum from +0 over all 2n+1 points, divided by 2n+1; no kinds, no weights
 
   module _ (n m : ℕ) (x p points observed z r : List Float) (h : n ≤ 8) (o : m ≤ 8) where
     abbrev flat : Head
@@ -302,7 +302,7 @@ module _ (f : Format) where
     pub flat_correction_from : flat_from f s m z r observed ≡ flat_head f s.sheet.n m s.track.x s.track.p s.track.drawn_points of_observed of_z of_r
     flat_correction_from = refl
 
-  -- An accepted open leaves the filter as it was, with what it has drawn beside it (`withDrawn` of filter/specs/Filters.antt), and hands out those points (the reply's `stale` says something only where the mark is read):
+  -- An accepted open leaves the filter as it was, with what it has drawn beside it (`with_drawn` of filter/specs/Filters.antt), and hands out those points (the reply's `stale` says something only where the mark is read):
   module _ (s : Filter) (b : List Float) where
     abbrev Opens : SetCall → Stage → Weighted → Type 0
     Opens c t d = step f s (setting c) ≡ record { filter = filter s.sheet (with_drawn s.track t d); reply = record { refusal = taken; given = take (point_numbers s.sheet.n) d.points; stale = true; bytes = [] } }
@@ -321,7 +321,7 @@ module _ (f : Format) where
     pub correction_opens : s.track.stale ≡ false → (step f s (setting (open_correction b))).reply.refusal.number ≡ 0 → Opens (open_correction b) Correcting (record { weights = s.track.weights; points = s.track.points })
     correction_opens = correction_opened f s b
 
-  -- An accepted close sets x and P to what its steps have made, installs points and the opened weights, sets the mark, and leaves nothing open and scratch at +0 (`closedWith` of filter/specs/Filters.antt):
+  -- An accepted close sets x and P to what its steps have made, installs points and the opened weights, sets the mark, and leaves nothing open and scratch at +0 (`closed_with` of filter/specs/Filters.antt):
   -- a prediction the propagated points, and it is not stale;
   pub prediction_installs : (s : Filter) (v : List Float) → (step f s (closing (close_prediction v))).reply.refusal.number ≡ 0
       → (step f s (closing (close_prediction v))).filter
@@ -340,7 +340,7 @@ module _ (f : Format) where
       → (step f s (closing (close_correction_flat m z r observed))).filter ≡ (let h = flat_from f s m z r observed in closed_with s s.track.drawn_points true (state f h) (covariance f h))
   flat_correction_installs = flat_correction_closed f
 
-  -- A stepped open (document 02, A7) leaves and draws the same at a stage of its own, and a stepped close is the whole-list close on the images that are in (`open-is-whole` and `close-is-whole` in EitherWay): it installs the images of a prediction,
+  -- A stepped open (document 02, A7) leaves and draws the same at a stage of its own, and a stepped close is the whole-list close on the images that are in (`open_is_whole` and `close_is_whole` in EitherWay): it installs the images of a prediction,
   pub stepped_prediction_installs : (s : Filter) → let c = closing_stepped close_prediction_stepped in (step f s c).reply.refusal.number ≡ 0
       → (step f s c).filter
       ≡ (let points = front (point_numbers s.sheet.n) s.track.kept.images (zeros 136) in

@@ -59,7 +59,7 @@ module _ (f : Format) (s : Filter) where
   pub observed_not_finite : (m : ℕ) (v : List Float) (i : ℕ) → let c = stepping (image_correction m v) in Free f 6 s c → FirstIn (take m v) i → ((step f s c).reply.refusal ≡ verdict (NUMBER Points i)) × ((step f s c).filter ≡ s)
   observed_not_finite m v i h w = bad_image f s (stepping (image_correction m v)) (λ o. elim o [ ]) i h (found w)
 
-  -- So between asks and images may stand refused calls (`refused-changes-nothing` in Demand1), asks repeated, and readings, which change nothing:
+  -- So between asks and images may stand refused calls (`refused_changes_nothing` in Demand1), asks repeated, and readings, which change nothing:
   pub reading_changes_nothing : (c : ReadCall) → (step f s (reading c)).filter ≡ s
   reading_changes_nothing c = step_cases f s (reading c) (λ t. t ≡ s) refl (λ d o g n. rw o)
 
@@ -124,7 +124,7 @@ module _ (f : Format) (s : Filter) where
     pub same_open : (step f s (setting (stepped_open o))).reply.refusal ≡ (step f s (setting (whole_open o b))).reply.refusal
     same_open = ap (λ (x : Answer). x.refusal) (opens_so f s b room_b o)
 
-    -- Opened, and with finite images i, whose list is v (there are such for every list that is long enough and finite: `images-of` in Stepwise):
+    -- Opened, and with finite images i, whose list is v (there are such for every list that is long enough and finite: `images_of` in Stepwise):
     module _ (accepts : (step f s (setting (whole_open o b))).reply.refusal.number ≡ 0) (a i : ℕ → List Float) (v : List Float) (room : (k : ℕ) → k ≤ s.sheet.n + s.sheet.n → s.sheet.n ≤ length (a k)) (im : Images s.sheet.n o i v) where
       -- the filter after the stepped open and k rounds, and the one that the whole-list open leaves
       abbrev after : ℕ → Filter

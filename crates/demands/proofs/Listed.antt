@@ -18,7 +18,7 @@ use Rattle.filter.specs.Calls.{setting, closing, open_prediction, open_correctio
 use Rattle.filter.proofs.Closing.{predicting}
 use Rattle.demands.specs.Listed.{listed_at_open, listed_at_prediction, listed_at_correction}
 
--- the steps of an opening that draws; those of the closes are `predicting` (filter/proofs/Closing.antt) and `applyPlan`
+-- the steps of an opening that draws; those of the closes are `predicting` (filter/proofs/Closing.antt) and `apply_plan`
 abbrev pub drawing : Format → Filter → Plan (List Float)
 drawing f s = draw_plan f s.sheet.n s.track.x s.track.p (scale_of f s.sheet.n s.sheet.params)
 

@@ -92,7 +92,7 @@ module _ (f : Format) where
       pub a_result_or_a_refusal : ((pair_step f p w c).reply.refusal ≡ taken) ⊎ ((r : Refusal) × ((pair_step f p w c).reply.refusal ≡ verdict r))
       a_result_or_a_refusal = pair_ends f p w c
 
-      -- a number at its place is given exactly when its row of the table applies there and no row before it in the order does (`pairAsks`: as on the filter of that side, but that a sheet change fits only while neither side has a call open),
+      -- a number at its place is given exactly when its row of the table applies there and no row before it in the order does (`pair_asks`: as on the filter of that side, but that a sheet change fits only while neither side has a call open),
       pub exactly_when : (r : Refusal) → ((pair_step f p w c).reply.refusal ≡ verdict r) ↔ Due f (pair_asks p w c) (planned (plan f (seen (solo p w)) c)) r
       exactly_when = pair_exactly f p w c
 

@@ -71,7 +71,7 @@ module _ (f : Format) where
   pub saved : (s : Filter) (b : List ℕ) → (step f s (reading (save b))).reply.refusal.number ≡ 0 → step f s (reading (save b)) ≡ record { filter = s; reply = record { refusal = taken; given = []; stale = true; bytes = bytes_of s } }
   saved = saved_as f
 
-  -- ---- load. Under three bytes it gives 2, and from there on it goes by what it asks; refused, it gives the empty filter (`load-exactly-when`, `load-taken-when` and `refused-load` in Demand1)
+  -- ---- load. Under three bytes it gives 2, and from there on it goes by what it asks; refused, it gives the empty filter (`load_exactly_when`, `load_taken_when` and `refused_load` in Demand1)
 
   -- 1 to 8 states (1), as many bytes as their record has (2), the form (12); then the numbers as New searches them, x, P, Q and the parameters, and after them each half-turn, a lone value at place 0 by itself; then 6 of the parameters and of the kinds.
   pub load_asks_lem : (b : List ℕ) → let n = get_or b 2 0 in let v : Params = record { alpha = number_at (drop (3 + 8 * n + 16 * (n * n)) b); beta = number_at (drop (11 + 8 * n + 16 * (n * n)) b); kappa = number_at (drop (19 + 8 * n + 16 * (n * n)) b) } in let kinds = read_each 9 kind_at n (drop (27 + 8 * n + 16 * (n * n)) b) in
@@ -128,18 +128,18 @@ module _ (f : Format) where
   pub alike_to_the_original : {s : Filter} → Yielded f s → Storable s → (out : List ℕ) → let a = (step f s (reading (save out))).reply in a.refusal.number ≡ 0 → let b = load_answer f (over a.bytes out) in (b.refusal ≡ taken) × Alike s b.filter
   alike_to_the_original = kept f
 
-  -- and answers every later call as the original does, refused ones and saves included (`same-told` in Demand3).
+  -- and answers every later call as the original does, refused ones and saves included (`same_told` in Demand3).
   pub answers_as_the_original : {s : Filter} → Yielded f s → Storable s → (out : List ℕ) → let a = (step f s (reading (save out))).reply in a.refusal.number ≡ 0 → (cs : List Call) → told f s cs ≡ told f (load_answer f (over a.bytes out)).filter cs
   answers_as_the_original = same_answers f
 
-  -- ---- nothing left over: alike filters have the same record. (That saving them tells the same, after any same calls, is `same-told` in Demand3.)
+  -- ---- nothing left over: alike filters have the same record. (That saving them tells the same, after any same calls, is `same_told` in Demand3.)
 
   pub alike_records : (s t : Filter) → Alike s t → bytes_of s ≡ bytes_of t
   alike_records = alike_bytes f
 
   -- ---- a side of a pair
 
-  -- is saved as the filter that it is with the sheet, whatever its partner has open, and the pair is left as it is; so what is said above of a filter holds of a side taken by itself, with the sheet as it stands (`sides-yielded` in Pairs). What is read back has a sheet of its own, and the partner's later changes don't reach it.
+  -- is saved as the filter that it is with the sheet, whatever its partner has open, and the pair is left as it is; so what is said above of a filter holds of a side taken by itself, with the sheet as it stands (`sides_yielded` in Pairs). What is read back has a sheet of its own, and the partner's later changes don't reach it.
   pub side_saves : (p : Pair) (w : Side) (out : List ℕ) → ((pair_step f p w (reading (save out))).reply ≡ (step f (solo p w) (reading (save out))).reply) × ((pair_step f p w (reading (save out))).pair ≡ p)
   side_saves = side_saved f
 

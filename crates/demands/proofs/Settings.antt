@@ -60,7 +60,7 @@ module _ (f : Format) (s : Filter) where
   pub writing_marks : (c : SheetCall) → Taken (writing c) → (after (writing c)).track.stale ≡ (sheet_marks c || s.track.stale)
   writing_marks c e = writing_marked f s c e
 
-  -- Points and weights are not touched, by a setting or an open call. (A refused call changes nothing at all: `refused-changes-nothing` in Demand1.)
+  -- Points and weights are not touched, by a setting or an open call. (A refused call changes nothing at all: `refused_changes_nothing` in Demand1.)
   pub points_not_touched : (c : SetCall) → ((after (setting c)).track.weights ≡ s.track.weights) × ((after (setting c)).track.points ≡ s.track.points)
   points_not_touched c = setting_keeps f s c
 

@@ -1,7 +1,7 @@
 -- LAWS OF THE WRAP, the page of document 02's A9: wrapping twice equals wrapping once; the wrap of −d is the negated wrap of d unless the wrap of d is exactly h; doubling d and h doubles the wrap, provided 2d and 4h are finite.
 -- In both formats and for every d and h of the format, zeros, NaN and infinities too. Equal means bit for bit, +0 and −0 being two values; no answer is a NaN. 2x is written x + x, which is exact or not finite.
--- The laws don't say what the wrap is: a build that gave d where |d| < h and else h would have them all. Demand2.antt says what it is (`wrap-is-exact`), Demand1.antt when it is refused, and that it gives +0 then (`refused-wrap`).
--- A step wraps by the same lines: crates/angles/proofs/StepLaws.antt has the laws of those, for any d (`step-again`, `step-negated`) and any unit 2 ^ n, through a kind too (`step-times`, `through-times`). Assumes nothing.
+-- The laws don't say what the wrap is: a build that gave d where |d| < h and else h would have them all. Demand2.antt says what it is (`wrap_is_exact`), Demand1.antt when it is refused, and that it gives +0 then (`refused_wrap`).
+-- A step wraps by the same lines: crates/angles/proofs/StepLaws.antt has the laws of those, for any d (`step_again`, `step_negated`) and any unit 2 ^ n, through a kind too (`step_times`, `through_times`). Assumes nothing.
 use mathlib.Core.Path.{◌≡◌, refl, sym, ap, ◌∙◌, subst}
 use mathlib.Core.Bool.{Bool, true, false, ◌&&◌, cond}
 use mathlib.Core.Logic.{◌≢◌, ◌⊎◌}
@@ -26,7 +26,7 @@ use Rattle.demands.proofs.Complete.{Allows}
 abbrev pub answer : Format → Float → Float → Wrapped
 answer f d h = wrapped (wrap_of f d h)
 
--- A call wrap(d, h) at f64 that hands back z: d and h are values of binary64, by the type of the parameters, and z is that answer, by the contract. (At f32: `wrap-answers` in crates/demands32/proofs/Demands.antt.)
+-- A call wrap(d, h) at f64 that hands back z: d and h are values of binary64, by the type of the parameters, and z is that answer, by the contract. (At f32: `wrap_answers` in crates/demands32/proofs/Demands.antt.)
 pub wrap_answers : (d h : Float) (z : Wrapped) → GoodsP tt wrap_of_lem.ps (d, (h, tt)) → Allows wrap_of_lem.ps wrap_of_lem.r wrap.Learnt tt (d, (h, tt)) z (tt, (tt, tt)) → T (fits binary64 d) × T (fits binary64 h) × (z ≡ answer binary64 d h)
 wrap_answers d h z g p = (subst T (sym g.0.1) tt, subst T (sym g.1.0.1) tt, p)
 

@@ -468,7 +468,7 @@ sides_story =
     ∷ ("A5 a point of the first", (by First (searching flawed (bad_at 4) (bad_at 0) (kinds_of Plain Plain Plain)), placing 54 4 [] 4 0))
     ∷ []
 
--- a refused New, of two states or of a pair, has no states (`refused-new` in Demand1 and Pairs has all of it)
+-- a refused New, of two states or of a pair, has no states (`refused_new` in Demand1 and Pairs has all of it)
 abbrev pub new_is : Format → List Float → List Float → List Float → Params → ℕ → ℕ → Bool
 new_is f x p q par number place = let a = new_answer f 2 x p q par in says a.refusal number place && eqb a.filter.sheet.n 0
 
@@ -631,7 +631,7 @@ module _ (f : Format) where
   abbrev pub filter_cases : List (String × Bool)
   filter_cases = leaf_cases ++ (call_cases ++ (root_cases ++ (setting_cases ++ place_cases)))
 
--- of the flat close; on two states the run of `placeStory` goes on
+-- of the flat close; on two states the run of `place_story` goes on
 abbrev pub flat_cases : List (String × Bool)
 flat_cases =
     against flat_story (told binary64 (at_first binary64) (map (λ e. e.1.0) flat_story))

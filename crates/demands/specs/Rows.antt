@@ -1,4 +1,4 @@
--- The table of refusals in the documents' own words (51 to 56, 10, 11, 12 and the places are document 02's; what A7 adds to 3 and 1 is in what its calls ask, `fits` and `named`, and that 3 is wider on a pair in what a call on a side asks, `pairFits`), and when a number is due. Definitions only.
+-- The table of refusals in the documents' own words (51 to 56, 10, 11, 12 and the places are document 02's; what A7 adds to 3 and 1 is in what its calls ask, `fits` and `named`, and that 3 is wider on a pair in what a call on a side asks, `pair_fits`), and when a number is due. Definitions only.
 use Rattle.std.specs.Prelude.{ℕ, ◌+◌, ◌*◌, ◌<◌, ◌≤◌, ◌≡◌, true, false, List, [], ◌∷◌, ◌++◌, ◌⊎◌, ◌≢◌, length, take, get_or, Float}
 use Rattle.std.specs.Float.{Format}
 use Rattle.std.specs.Float.Ieee.{lt, add}

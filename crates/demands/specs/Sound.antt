@@ -88,7 +88,7 @@ module _ (f : Format) where
     stepped_on : {s : Filter} → Yielded s → (c : Call) → Yielded (step f s c).filter
     put_at_will : {s : Filter} (t : Filter) → Yielded s → Alike s t → Yielded t
 
--- every number that a call hands out: those it gives, to a buffer or as values, and x and P as they stand after it (those that a saved record is written from: `record-finite` in Records)
+-- every number that a call hands out: those it gives, to a buffer or as values, and x and P as they stand after it (those that a saved record is written from: `record_finite` in Records)
 abbrev pub handed_out : Told → List Float
 handed_out t = t.reply.given ++ (t.x ++ t.p)
 

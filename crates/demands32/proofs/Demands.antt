@@ -60,7 +60,7 @@ use Rattle.demands32.proofs.Carried.{none_flat, none_saves, step_carried, new_ca
 
 -- ---- From the code to here, and from here to `demands`
 
--- An answer that meets the contract of a call on s has the filter, the number and the place of `stepNarrow`, and one that meets New's is `newNarrow`.
+-- An answer that meets the contract of a call on s has the filter, the number and the place of `step_narrow`, and one that meets New's is `new_narrow`.
 pub handed_back : (s : Filter) (c : Call) (a : Answer) → wide_answer a ≡ answered (step binary32 (wide_filter s) (wide_call c)) → (a.filter ≡ (step_narrow s c).filter) × (a.refusal ≡ (step_narrow s c).reply.refusal)
 handed_back s c a e = (sym (back_filter a.filter) ∙ ap (λ (v : WideAnswer). narrow_filter v.filter) e, ap (λ (v : WideAnswer). v.refusal) e)
 
