@@ -310,7 +310,7 @@ def proof(crate, where, text):
     for a, b in PROOFS.get(crate, {}).get(where, []):
         assert a in text, (crate, where, a)
         text = text.replace(a, b)
-    uses = {w: home(w) for w in re.findall(r'(?<![\w.-])(?:wide_\w+|kinds?_(?:at|set|long))(?![\w-])', text)}
+    uses = {w: home(w) for w in re.findall(r'(?<![\w.:-])(?:wide_\w+|kinds?_(?:at|set|long))(?![\w-])', text)}
     lines = ''.join(f'use {path(*uses[w])}.{{{w}}}\n' for w in sorted(uses))
     return re.sub(r'(?=use Rattle[^\n]*Statement)', lines, text, count=1)
 

@@ -7,7 +7,6 @@ use borrow.Author.Tests.{not-true, not-false}
 use Rattle.script.specs.Numbers.{turn_of, kind_in}
 use Rattle.script.specs.declared.text.Token.{Token}
 use Rattle.script.proofs.Letters.{tested, plain_told, no_letter, turn_told}
-use Rattle.angles32.proofs.Places.{kind_at}
 use Rattle.script32.specs.Wide.{wide_number_read}
 use Rattle.script32.proofs.numbers.kind_at.Statement.{statement}
 use Rattle.script32.proofs.numbers.kind_at.Tie as tie
