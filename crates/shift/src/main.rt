@@ -1,6 +1,7 @@
 // shift FILE: replays the script of calls on standard input from the filter whose record FILE holds, and writes the record of the filter that is left back to FILE.
 // shift FILE first: the first shift, from the empty filter; FILE must not be there yet.
 // Answers go to standard output, as those of `replay`. What becomes of the record is told on standard error: where it can't be written FILE stays as it was, and where it can't be read no call is replayed.
+// Where the script can't be read to its end or an answer can't be written, the program ends with that error, and FILE stays as it was.
 #![tactic(auto)]
 
 ghost use Rattle.std.specs.Prelude.{◌≤◌, length};

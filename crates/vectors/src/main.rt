@@ -1,5 +1,5 @@
 // Reads records on standard input and writes a line of answer to each. A record is a word that says what to run, then the words that this takes;
-// a word is 16 hex digits and a newline. An unknown first word or a bad word is answered `bad` and ends the run, as the end of the input does.
+// a word is 16 hex digits and a newline. An unknown first word or a bad word is answered `bad` and ends the run, as the end of the input does. A read or a write that fails ends it with that error.
 // An answer is a refusal, or 0, and its place, where what is run can be refused, then its numbers, each after a space. vectors/make.py writes what it reads here and what it must answer.
 #![tactic(auto)]
 
