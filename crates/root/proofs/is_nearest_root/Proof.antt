@@ -34,11 +34,6 @@ returns-2 c =
     let m = parts c.before in
     denied c.before.before.args.d c.before.before.args.q (search rules) (λ n. omega arith)
 
-returns-3 : tie.Need-returns-then-above-gt3
-returns-3 c =
-    let m = parts c.before.before in
-    denied c.before.before.before.args.d c.before.before.before.args.q (search rules) (λ n. omega arith)
-
 returns-4 : tie.Need-returns-then-rest-q
 returns-4 c =
     let m = parts c.before.before.before in
@@ -56,4 +51,6 @@ is_nearest_root_spec =
     tie.close (tie.spec
     returns (λ c. omega arith) (λ c. let m = parts c in omega arith) (λ c. omega arith) (λ c. omega arith) (λ c. let m = parts c in omega arith)
     (λ c. let m = parts c in omega arith) (λ c. let m = parts c in omega arith) (λ c. let m = parts c in omega arith)
-    returns-2 returns-3 (λ c. omega arith) (λ c. omega arith) (λ c. omega arith) (λ c. omega arith) (λ c. omega arith) returns-4 returns-5)
+    returns-2
+    (λ c. let m = parts c.before.before in denied c.before.before.before.args.d c.before.before.before.args.q (search rules) (λ n. omega arith))
+    (λ c. omega arith) (λ c. omega arith) (λ c. omega arith) (λ c. omega arith) (λ c. omega arith) returns-4 returns-5)
