@@ -1,29 +1,38 @@
-# For oracle/roots, roots32, f32only, sizes and records: what is proved, built into a library that another language can link. Wants rt on the path.
-# On x86-64 that is the kit's own library; elsewhere the library's LLVM module is compiled by the kit's clang for the processor at hand, so that times say something there too.
+# For oracle/roots, roots32, f32only, sizes and records, which set top, the repository: what is proved, built into a library that another language can link. Wants rt on the path.
 guide=$(rt doc)
-kit=$(cd "${RATTLE_HOME:-$(dirname "$guide")/..}" && pwd)
-machine=$(uname -m)
+kit=$(cd "$(dirname "$guide")" && pwd)
 
-proved() { # FOLDER
-    (cd "$1" && rt staticlib probe) >"$1/said" 2>&1 || { tail -n 20 "$1/said" >&2; exit 1; }
+# Copies the repository's crates to FOLDER. What is proved there already comes along, and need not be proved again.
+copied() { # FOLDER
+    mkdir -p "$1"
+    tar -C "$top" --exclude='crates/*/out/incremental' -cf - crates crates.txt | tar -C "$1" -xf -
 }
 
 # Proves the library probe of the repository FOLDER, and leaves FOLDER/probe to be linked.
 built() { # FOLDER
-    if [ "$machine" = x86_64 ]; then
-        proved "$1"
-        mv "$1/target/staticlib/libprobe.a" "$1/probe"
-        return
-    fi
-    # the same kit, but for a clang that keeps the module it is given
-    tools=on/$machine/toolchain/bin
-    mkdir -p "$1/kit/$tools"
-    for part in "$kit"/* "$kit/on/$machine"/* "$kit/on/$machine/toolchain"/* "$kit/$tools"/*; do
-        [ -e "$1/kit/${part#"$kit"/}" ] || ln -s "$part" "$1/kit/${part#"$kit"/}"
+    (cd "$1/crates/probe" && rt lib) >"$1/said" 2>&1 || { tail -n 20 "$1/said" >&2; exit 1; }
+    mv "$1/crates/probe/out/libprobe.a" "$1/probe"
+}
+
+# The same, and leaves in FOLDER/text the LLVM module that the library is compiled from, as it stands before it is optimised. Libraries are those that probe names in crates.txt.
+# The module is what the kit's clang is given: probe is compiled once more, with the kit's tools but for a clang that keeps it.
+module() { # FOLDER LIBRARY..
+    built "$1"
+    at=$1
+    shift
+    mkdir -p "$at/tools/bin"
+    for part in "$kit/toolchain"/* "$kit/toolchain/bin"/*; do
+        [ -e "$at/tools/${part#"$kit/toolchain/"}" ] || ln -s "$part" "$at/tools/${part#"$kit/toolchain/"}"
     done
-    rm "$1/kit/$tools/clang"
-    printf '#!/bin/sh\ncp module.bc "%s"\nexec "%s" "$@"\n' "$1/module.bc" "$kit/$tools/clang" >"$1/kit/$tools/clang"
-    chmod +x "$1/kit/$tools/clang"
-    (export RATTLE_HOME="$1/kit" && proved "$1")
-    "$kit/$tools/clang" --target="$machine-unknown-linux-gnu" -O3 -fPIC -c -x ir "$1/module.bc" -o "$1/probe" 2>"$1/said" || { cat "$1/said" >&2; exit 1; }
+    rm "$at/tools/bin/clang"
+    printf '#!/bin/sh\ncp module.bc "%s"\nexec "%s" "$@"\n' "$at/module.bc" "$kit/toolchain/bin/clang" >"$at/tools/bin/clang"
+    chmod +x "$at/tools/bin/clang"
+    for library; do
+        shift
+        set -- "$@" --extern "$library=$at/crates/$library/out/rlib/$library.rlib"
+    done
+    for rlib in "$at"/crates/*/out/rlib; do set -- "$@" -L "dependency=$rlib"; done
+    (cd "$at/crates/probe" && "$kit/bin/rattle" build --crate-name probe src/lib.rt --crate-type staticlib --extern "std=$kit/rlibs/std.rlib" "$@" -L "dependency=$kit/rlibs" \
+        --antt-project "$kit/rattle/logic/antt-project.json" --logic-built "$kit/logic_built" --incremental out/incremental --toolchain "$at/tools" -o "$at/probe") >"$at/said" 2>&1 || { tail -n 20 "$at/said" >&2; exit 1; }
+    "$kit/toolchain/bin/clang" -S -emit-llvm -O0 -x ir "$at/module.bc" -o "$at/text" 2>"$at/said" || { cat "$at/said" >&2; exit 1; }
 }
