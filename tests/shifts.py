@@ -1,7 +1,7 @@
 #!/usr/bin/env python3
 """shifts.py COMMAND [ROUNDS] [SEED]: kills the program `shift` at work, hands it bad files and a full disk, and holds it to one rule: the file has the old record or the new one, byte for byte.
 
-COMMAND runs `shift`, FILE and words are put after it; it has to be the program's own process, as `dives/run shift` is, so that a kill meets it. FOLDER in the environment is where the files are made (by default the temporary folder).
+COMMAND runs `shift`, FILE and words are put after it; it has to be the program's own process, as `dives/run shift` is (with RATTLE_HOME set to the kit's folder it starts at once), so that a kill meets it. FOLDER in the environment is where the files are made (by default the temporary folder).
   kills    ROUNDS times (by default 300) as soon as the temporary file is there, and as many times at a random moment
   files    missing, empty, cut at every length, damaged at every part, and a filter that can't be saved at the end: the file stays, the number is told, and where there is no record to start from no call is answered
   disk     a small file system that is full, where one can be mounted, else a limit on the length of files
