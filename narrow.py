@@ -260,7 +260,7 @@ def contracts(text, crate):
 
 
 def common(text, crate):
-    text = re.sub(rf'Rattle\.{crate}\.proofs\.([\w.]+\.(?:Statement|Tie|Lts)\b)', rf'Rattle.{crate}32.proofs.\1', text)
+    text = re.sub(rf'Rattle\.{crate}\.proofs\.([\w.+]+\.(?:Statement|Tie|Lts|Goals|Given)\b)', rf'Rattle.{crate}32.proofs.\1', text)
     text = re.sub(r'(?<!\w)f64\b|(?<=0)f64\b', 'f32', text).replace('binary64', 'binary32').replace('double', 'f32')
     for word, other in sorted(NUMBERS.get(crate, {}).items(), key=lambda w: -len(w[0])):
         before, after = '' if word[0].isalpha() else '.', r'\b' if word[-1].isalnum() else ''
@@ -312,7 +312,7 @@ def proof(crate, where, text):
         text = text.replace(a, b)
     uses = {w: home(w) for w in re.findall(r'(?<![\w.:-])(?:wide_\w+|kinds?_(?:at|set|long))(?![\w-])', text)}
     lines = ''.join(f'use {path(*uses[w])}.{{{w}}}\n' for w in sorted(uses))
-    return re.sub(r'(?=use Rattle[^\n]*Statement)', lines, text, count=1)
+    return re.sub(r'(?=use Rattle[^\n]*(?:Statement|Goals|Given))', lines, text, count=1)
 
 
 def marked(text, crate):
@@ -335,7 +335,7 @@ def made(crate):
                 text = open(os.path.join(folder, name), encoding='utf-8').read()
                 if name.endswith('.rt'):
                     yield rel, marked(source(crate, name, text), crate)
-                elif name == 'Proof.antt':
+                elif where and name in ('Proof.antt', 'Answers.antt', 'Invariants.antt'):
                     yield rel, marked(proof(crate, where, text), crate)
 
 

@@ -1,20 +1,78 @@
 // The exact wrap of a difference of headings into (-h, h], and the residual kinds that use it.
 #![tactic(auto)]
 
-ghost use Rattle.std.specs.Prelude.{◌≡◌};
+ghost use Rattle.std.specs.Prelude.{◌≡◌, true, false};
 ghost use Rattle.std.specs.Float.{binary64};
+ghost use Rattle.std.specs.Float.Ieee.{lt, rem};
+ghost use Rattle.std.specs.Float.Ieee.Scale.{finite};
+ghost use Rattle.floats.specs.Numbers.{plus_zero};
 ghost use Rattle.floats.specs.Refusal.{refusal};
 ghost use Rattle.angles.specs.Wrap.{wrap_step, half_turn, wrap_of, wrapped};
 ghost use Rattle.angles.specs.Kinds.{through_of, half_of, passes, kind_of};
 
 use floats::Verdict;
 
+// The remainder of r by t, both finite and above 0: that by twice t, less t where it isn't below t. No r of the format reaches a twice that is beyond the format, so that then t is taken off once.
+// Nothing is rounded: what is taken off is at least half of what it is taken from.
+fn rest(r: f64, t: f64) -> f64
+    requires size { (finite r ≡ true) × (lt plus_zero r ≡ true) }
+    requires divisor { (finite t ≡ true) × (lt plus_zero t ≡ true) }
+    ensures { result ≡ rem binary64 r t }
+{
+    if r < t {
+        return r;
+    }
+    let twice = t + t;
+    if !floats::is_finite(twice) {
+        return r - t;
+    }
+    let left = rest(r, twice);
+    if left < t {
+        return left;
+    }
+    left - t
+}
+
+// The remainder of d by a p that is not below 0; it has the sign of d. NaN where d isn't finite or p is a zero or NaN.
+fn remainder_by(d: f64, p: f64) -> f64
+    requires { lt p plus_zero ≡ false }
+    ensures { result ≡ rem binary64 d p }
+{
+    let none = 0.0 / 0.0;
+    if !floats::is_finite(d) {
+        return none;
+    }
+    if !(0.0 < p) {
+        return none;
+    }
+    if !floats::is_finite(p) {
+        return d;
+    }
+    if d < 0.0 {
+        return -rest(-d, p);
+    }
+    if 0.0 < d {
+        return rest(d, p);
+    }
+    d
+}
+
+// d % p, as IEEE 754's language bindings have it: d less a whole number of p's, with the sign of d and below p in size. The C library is not asked.
+fn remainder(d: f64, p: f64) -> f64
+    ensures { result ≡ rem binary64 d p }
+{
+    if p < 0.0 {
+        return remainder_by(d, -p);
+    }
+    remainder_by(d, p)
+}
+
 // The wrap's lines for any bits, as a step uses them: a d that isn't finite comes out not finite. It judges nothing: an h that 6 would refuse gives what the lines give.
 fn wrap_step(d: f64, h: f64) -> f64
     ensures { result ≡ wrap_step binary64 d h }
 {
     let p = h + h;
-    let r = d % p;
+    let r = remainder(d, p);
     if r > h {
         return r - p;
     }

@@ -16,17 +16,6 @@ more c e = c.if-b-eq0.false (and_mask (to_bits binary32 c.before.before.args.x) 
 returns-2 : tie.Need-returns-then-b-eq0
 returns-2 c = let s = c.before.before in zero_out binary32 _ s.well_formed.0.1 (sym (and_mask (to_bits binary32 s.args.x) 31) ∙ c.if-b-eq0.true)
 
-returns-3 : tie.Need-returns-then-b-ge255
-returns-3 c = let s = c.before.before.before in refused_out binary32 _ s.well_formed.0.1 (more c.before) (omega (arith, c.if-b-ge255.true))
-
-positive-root-requires : tie.Need-positive_root-requires
-positive-root-requires c κs = (omega (arith, more c.before), omega (arith, c.if-b-ge255.false))
-
-returns-4 : tie.Need-returns
-returns-4 c =
-    let s = c.before.before.before.before in
-    root_out binary32 _ s.well_formed.0.1 (more c.before.before) (omega (arith, c.before.if-b-ge255.false)) c.positive_root.ensures
-
 pub square_root_spec : {M : Type 1} → statement M
 square_root_spec =
     tie.close
@@ -34,6 +23,6 @@ square_root_spec =
     (λ c. nan_out binary32 c.before.args.x c.if-x.true)
     (λ c. no_nan c.before.args.x c.if-x.false)
     returns-2
-    returns-3
-    positive-root-requires
-    returns-4)
+    (λ c. refused_out binary32 _ c.well_formed.0.1 (more c.before) (omega arith))
+    (λ c κs. (omega (arith, more c.before), omega arith))
+    (λ c. root_out binary32 _ c.well_formed.0.1 (more c.before.before) (omega arith) c.positive_root.ensures))
