@@ -125,11 +125,17 @@ def wrap_answer(d_bits, h_bits):
     turn = 2 * Fraction(h)
     if not (h > 0.0 and turn <= Fraction(LARGEST)):
         return '6 0 ' + word(0.0)
-    # the one number in (-h, h] that is a whole number of turns away from d; a zero has the sign of d
-    r = Fraction(d) - turn * math.ceil((Fraction(d) - Fraction(h)) / turn)
+    # the remainder has the sign of d, a zero too; the two lines below it never give a zero, since it lies strictly inside one turn
+    r = abs(Fraction(d)) % turn
     if r == 0:
         return '0 0 ' + word(math.copysign(0.0, d))
-    assert -Fraction(h) < r <= Fraction(h)
+    if d < 0.0:
+        r = -r
+    if r > Fraction(h):
+        r -= turn
+    elif r <= -Fraction(h):
+        r += turn
+    assert r != 0 and -Fraction(h) < r <= Fraction(h)
     value = float(r)
     assert Fraction(value) == r
     return '0 0 ' + word(value)

@@ -69,11 +69,16 @@ def wrap_answer(d, h):
     half = fraction_of(h)
     if half <= 0 or 2 * half > fraction_of(LARGEST):
         return '6 0 00000000'
-    # The one number in (-h, h] that is a whole number of turns away from d; a zero has the sign of d.
-    rest = fraction_of(d) - 2 * half * math.ceil((fraction_of(d) - half) / (2 * half))
+    # The remainder has the sign of d, a zero too.
+    rest = abs(fraction_of(d)) % (2 * half)
     if rest == 0:
         return f'0 0 {d & SIGN:08x}'
-    assert -half < rest <= half
+    if d & SIGN:
+        rest = -rest
+    if rest > half:
+        rest -= 2 * half
+    elif rest <= -half:
+        rest += 2 * half
     return f'0 0 {bits_of(rest):08x}'
 
 

@@ -24,7 +24,7 @@ use Rattle.floats.specs.Units.{units_of, minus?, signed, scaled}
 use Rattle.angles.specs.Exact.{Wraps}
 use Rattle.floats.proofs.Refusals.{number_above, passed}
 use Rattle.floats.proofs.Units.{lt_units, le_units, neg_units, finite_value}
-use Rattle.floats.proofs.Grid.{Held, zero_held, held, units_is, scaled_is}
+use Rattle.floats.proofs.Grid.{Held, held, units_is, scaled_is}
 use Rattle.angles.proofs.Sizes.{over, sign_of, size_of, left_lt, wrap_value}
 
 -- ---- the integers
@@ -171,8 +171,11 @@ module _ (f : Format) (d h : Float) (s : Bool) (D H : ℕ) (hd : Held f d s D) (
       }
 
 -- ---- h above 0 is not negative, and is not 0 units
+zero_value : (f : Format) → HasValue plus_zero false 0 (2 ^ low f)
+zero_value f = (refl, ap (λ (x : ℕ). x * 2 ^ low f) (zero-mul 1) ∙ zero-mul (2 ^ low f))
+
 positive : (f : Format) (t : Bool) (h : Float) (H : ℕ) → HasValue h t H (2 ^ low f) → T (lt plus_zero h) → (t ≡ false) × (0 < H)
-positive f t h H v a = go t (subst T (lt_units plus_zero h false t 0 H (2 ^ low f) (pow_pos (low f)) (zero_held f false (pos 0)).value v) a)
+positive f t h H v a = go t (subst T (lt_units plus_zero h false t 0 H (2 ^ low f) (pow_pos (low f)) (zero_value f) v) a)
   where
     go : (t : Bool) → T (below false 0 t H) → (t ≡ false) × (0 < H)
     go false x = (refl, ltb→lt 0 H x)

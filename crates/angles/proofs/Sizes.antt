@@ -12,7 +12,7 @@ use lib.Ieee.Exact.{HasValue}
 use lib.Ieee.Scale.{finite, overflow}
 use Rattle.angles.specs.Wrap.{wrap_step, brought}
 use Rattle.floats.proofs.Units.{same_bool, lt_units, le_units, neg_units, add_units, sub_units, rem_units}
-use Rattle.floats.proofs.Grid.{Held, Gridded, round_short, short_twice, twice_under, twice_held, gridded, short_rem, short_rest}
+use Rattle.floats.proofs.Grid.{Held, Gridded, round_short, short_twice, short_under, gridded, short_rem, short_rest}
 
 -- r, the remainder of d's size by 2h, is brought over h: to 2h - r with the other sign
 abbrev pub over : Bool → ℕ → ℕ → Bool
@@ -137,11 +137,15 @@ module _ (f : Format) (d h : Float) (s : Bool) (D H : ℕ) (hd : Held f d s D) (
   L : 0 < 2 ^ low f
   L = pow_pos (low f)
 
+  period_is : add f h h ≡ round f false (H + H) (2 ^ low f)
+  unfolding sum
+  period_is = add_units f h h false false H H (2 ^ low f) L hh.value hh.value
+
   period_under : H + H < overflow f
-  period_under = twice_under f h false H hh fin2
+  period_under = short_under f (H + H) (short_twice f H hh.short) (subst (λ (x : Float). T (finite x)) period_is fin2)
 
   period_value : HasValue (add f h h) false (H + H) (2 ^ low f)
-  period_value = (twice_held f h false H hh period_under).value
+  period_value = subst (λ (x : Float). HasValue x false (H + H) (2 ^ low f)) (sym period_is) (round_short f false (H + H) (short_twice f H hh.short) period_under)
 
   grid : Gridded f D (H + H)
   grid = gridded f D (H + H) (twice_pos H P) hd.short (short_twice f H hh.short)
@@ -160,6 +164,6 @@ module _ (f : Format) (d h : Float) (s : Bool) (D H : ℕ) (hd : Held f d s D) (
       (round_short f (not s) (H + H - D % (H + H)) (short_rest f D (H + H) grid (over_le s (D % (H + H)) H t)) (rest_lt (H + H) (D % (H + H)) (overflow f) period_under))
 
   -- the wrap, in units
-  pub wrap_value : HasValue (wrap_step f d h) (wrap_sign s D H) (wrap_size s D H) (2 ^ low f)
+  pub wrap_value : HasValue (wrap_step f d h) (sign_of (over s (D % (H + H)) H) s) (size_of (over s (D % (H + H)) H) (D % (H + H)) H) (2 ^ low f)
   unfolding wrap_step
   wrap_value = pick f s h (add f h h) (rem f d (add f h h)) H (D % (H + H)) (2 ^ low f) L P hh.value period_value rem_value over_value
