@@ -1,14 +1,16 @@
 -- The turns of the loops over pieces: what is left to do, done, comes to the whole. Assumes nothing.
-use Prim.Native.Nat.{ℕ, suc, ◌+◌, ◌-◌, ◌*◌, ◌/◌, ◌%◌, ◌^◌, ◌<◌, ◌≤◌}
+use Prim.Native.Nat.{ℕ, zero, suc, ◌+◌, ◌-◌, ◌*◌, ◌<◌, ◌≤◌}
 use mathlib.Core.Path.{◌≡◌, refl, sym, ap, ap₂, ◌∙◌, subst}
-use mathlib.Core.List.{List, [], ◌∷◌, ◌++◌}
-use native.Mathlib.Nat.{pow-succ', pow-le-pow_right, zero-lt-suc}
+use mathlib.Core.Bool.{Bool, ◌&&◌}
+use mathlib.Core.List.{List, [], ◌∷◌, ◌++◌, append_assoc}
 use native.Mathlib.Numerals.{add-one}
 use native.Mathlib.Omega.{arith}
 use lib.ListN.{length, take, drop, get_or, set, length-set}
 use lib.Seq.{sets, length-sets, sets-eq, drop-drop, drop-cons}
 use Rattle.floats.specs.Fronts.{over}
-use Rattle.pieces.specs.Bytes.{little_endian, word_of, written, read_each}
+use Rattle.std.specs.List.{list_all, range_with_len}
+use Rattle.std.proofs.lemmas.List.{length-take-le}
+use Rattle.pieces.specs.Bytes.{written, read_each, all_true}
 use Rattle.pieces.proofs.Laws.{length_read}
 
 -- stored one after the other
@@ -19,6 +21,29 @@ sets_append l i (a ∷ v) u = sets_append (set l i a) (suc i) v u ∙ ap (λ (j 
 -- stored at the front
 pub sets_over : {A : Type 0} (l v : List A) → length v ≤ length l → sets l 0 v ≡ over v l
 sets_over l v h = let z : 0 + length v ≡ length v = omega arith in sets-eq v l 0 (omega arith) ∙ ap (λ (n : ℕ). v ++ drop n l) z
+
+-- stored at the front of the first k
+drop-take : {A : Type 0} (k : ℕ) (l : List A) → drop k (take k l) ≡ []
+drop-take zero l = refl
+drop-take (suc k) [] = refl
+drop-take (suc k) (a ∷ l) = drop-take k l
+
+over_part : {A : Type 0} (v l : List A) (k : ℕ) → length v ≡ k → over v (take k l) ++ drop k l ≡ over v l
+over_part v l k e =
+    append_assoc v (drop (length v) (take k l)) (drop k l)
+    ∙ ap (λ (n : ℕ). v ++ (drop n (take k l) ++ drop k l)) e ∙ ap (λ (b : List _). v ++ (b ++ drop k l)) (drop-take k l) ∙ ap (λ (n : ℕ). v ++ drop n l) (sym e)
+
+-- a test of each piece, place after place
+places_from : (w : ℕ) (test : List ℕ → Bool) (s : List ℕ) (at a n : ℕ) → list_all (λ i. test (drop (at + w * i) s)) (range_with_len a n) ≡ all_true (read_each w test n (drop (at + w * a) s))
+unfolding read_each
+places_from w test s at a zero = refl
+places_from w test s at a (suc n) =
+    let p : at + w * (a + 1) ≡ at + w * a + w = omega arith in
+    ap (λ (t : Bool). test (drop (at + w * a) s) && t)
+    (places_from w test s at (a + 1) n ∙ ap (λ (b : List ℕ). all_true (read_each w test n b)) (ap (λ (j : ℕ). drop j s) p ∙ sym (drop-drop w (at + w * a) s)))
+
+pub places_all : (w : ℕ) (test : List ℕ → Bool) (s : List ℕ) (at n : ℕ) → list_all (λ i. test (drop (at + w * i) s)) (range_with_len 0 n) ≡ all_true (read_each w test n (drop at s))
+places_all w test s at n = let p : at + w * 0 ≡ at = omega arith in places_from w test s at 0 n ∙ ap (λ (j : ℕ). all_true (read_each w test n (drop j s))) p
 
 module _ {A : Type 0} where
   one : (w : ℕ) (from : List ℕ → A) (j : ℕ) (b : List ℕ) → read_each w from (suc j) b ≡ from b ∷ read_each w from j (drop w b)
@@ -67,6 +92,13 @@ module _ {A : Type 0} where
         sym (ap (sets out i) (each_end w from (drop (at + w * i) s) k i e)) ∙ r.comes
         ∙ sets_over start (read_each w from k (drop at s)) (subst (λ (n : ℕ). n ≤ length start) (sym (length_read w from k (drop at s))) l)
 
+    -- where it is read to the first k of a longer list
+    pub reading_part : (longer : List A) → start ≡ take k longer → i ≡ k → k ≤ length longer → out ++ drop k longer ≡ over (read_each w from k (drop at s)) longer
+    reading_part longer p e l =
+        let g : k ≤ length start = omega (arith, ap length p, length-take-le k longer l) in
+        ap (λ (b : List A). b ++ drop k longer) (reading_end e g ∙ ap (over (read_each w from k (drop at s))) p)
+        ∙ over_part (read_each w from k (drop at s)) longer k (length_read w from k (drop at s))
+
   pub written_next : (to : A → List ℕ) (l : List A) (k i : ℕ) (d : A) → i < k → i < length l
       → written to (take (k - i) (drop i l)) ≡ to (get_or l i d) ++ written to (take (k - (i + 1)) (drop (i + 1) l))
   unfolding written
@@ -104,73 +136,3 @@ module _ {A : Type 0} where
       where
         zero_left : 0 ≡ k - i
         zero_left = omega arith
-
--- ---- the bytes of a word
-
-word_next : (k c : ℕ) (b : List ℕ) → word_of (suc k) (c ∷ b) ≡ c + 256 * word_of k b
-unfolding word_of
-word_next k c b = refl
-
-little_next : (k v : ℕ) → little_endian (suc k) v ≡ v % 256 ∷ little_endian k (v / 256)
-unfolding little_endian
-little_next k v = refl
-
--- those from place k up have come to v
-pub record Summed (s : List ℕ) (at k v : ℕ) : Type 0 where
-  pub few : k ≤ 8
-  pub small : v < 256 ^ (8 - k)
-  pub comes : v ≡ word_of (8 - k) (drop (at + k) s)
-
-pub summed_none : {s : List ℕ} {at : ℕ} → Summed s at 8 0
-unfolding word_of
-summed_none = record { few = omega arith; small = omega arith; comes = refl }
-
-module _ {s : List ℕ} {at k v : ℕ} (r : Summed s at k v) where
-  pub summed_more : {j c : ℕ} → suc j ≡ k → c ≡ get_or s (at + j) 0 → c < 256 → at + k ≤ length s → Summed s at j (v * 256 + c)
-  summed_more {j} {c} e g b l =
-      let q : 8 - j ≡ suc (8 - k) = omega (arith, r.few) in
-      let i : at + j < length s = omega arith in
-      let p : suc (at + j) ≡ at + k = omega arith in
-      let o : v * 256 + c ≡ c + 256 * v = omega arith in
-      record {
-        few = omega (arith, r.few);
-        small = rw q (omega (arith, pow-succ' 256 (8 - k), r.small));
-        comes =
-            o ∙ ap₂ (λ (x y : ℕ). x + 256 * y) g (r.comes ∙ ap (λ (n : ℕ). word_of (8 - k) (drop n s)) (sym p))
-            ∙ sym (ap₂ (λ (n : ℕ) (b : List ℕ). word_of n b) q (drop-cons s (at + j) 0 i) ∙ word_next (8 - k) (get_or s (at + j) 0) (drop (suc (at + j)) s));
-      }
-
-  pub summed_fits : {c : ℕ} → 0 < k → c < 256 → v * 256 + c < 2 ^ 64
-  summed_fits {c} h b =
-      let few : 8 - k ≤ 7 = omega arith in
-      omega (arith, r.small, pow-le-pow_right (zero-lt-suc 255) few)
-
-  pub summed_end : k ≡ 0 → v ≡ word_of 8 (drop at s)
-  summed_end e =
-      let n : 8 - k ≡ 8 = omega arith in
-      let p : at + k ≡ at = omega arith in
-      r.comes ∙ ap₂ (λ (i j : ℕ). word_of i (drop j s)) n p
-
--- the first k bytes of v have been put, and rest is what is left of it
-pub record Put (start : List ℕ) (at v k rest : ℕ) (out : List ℕ) : Type 0 where
-  pub long : length out ≡ length start
-  pub comes : sets out (at + k) (little_endian (8 - k) rest) ≡ sets start at (little_endian 8 v)
-
-pub put_none : {start : List ℕ} {at v : ℕ} → Put start at v 0 v start
-put_none {start} {at} {v} = let p : at + 0 ≡ at = omega arith in record { long = refl; comes = ap (λ (i : ℕ). sets start i (little_endian 8 v)) p }
-
-module _ {start : List ℕ} {at v k rest : ℕ} {out : List ℕ} (r : Put start at v k rest out) where
-  pub put_more : k < 8 → Put start at v (k + 1) (rest / 256) (set out (at + k) (rest % 256))
-  put_more h =
-      let q : 8 - k ≡ suc (8 - (k + 1)) = omega arith in
-      let p : at + (k + 1) ≡ suc (at + k) = omega arith in
-      record {
-        long = length-set out (at + k) (rest % 256) ∙ r.long;
-        comes =
-            ap (λ (i : ℕ). sets (set out (at + k) (rest % 256)) i (little_endian (8 - (k + 1)) (rest / 256))) p
-            ∙ sym (ap (sets out (at + k)) (ap (λ (n : ℕ). little_endian n rest) q ∙ little_next (8 - (k + 1)) rest)) ∙ r.comes;
-      }
-
-  pub put_end : k ≡ 8 → out ≡ sets start at (little_endian 8 v)
-  unfolding little_endian
-  put_end e = let z : 0 ≡ 8 - k = omega arith in ap (λ (n : ℕ). sets out (at + k) (little_endian n rest)) z ∙ r.comes

@@ -13,16 +13,14 @@ pub fn put_kind(k: Kind, out: &mut [u8], at: usize)
     requires { at + 9 ≤ length out.old }
     ensures { out.new ≡ sets out.old at (kind_bytes k) }
 {
-    let residual = k.residual;
-    match residual {
+    match k.residual {
         Residual::Plain => {
             out[at] = 0;
             word::put_word(out, at + 1, 0);
         }
         Residual::Turn(h) => {
-            let b = words::bits_of(h);
             out[at] = 1;
-            word::put_word(out, at + 1, b);
+            word::put_word(out, at + 1, words::bits_of(h));
         }
     }
 }
@@ -32,11 +30,8 @@ pub fn put_kinds(kinds: [Kind; 8], n: usize, out: &mut [u8], at: usize)
     requires { (n ≤ 8) × (at + 9 * n ≤ length out.old) }
     ensures { out.new ≡ sets out.old at (written kind_bytes (take n kinds)) }
 {
-    let mut i = 0usize;
-    while i < n {
-        let k = kinds[i];
-        put_kind(k, out, at + 9 * i);
-        i += 1;
+    for (i, k) in kinds[..n].iter().enumerate() {
+        put_kind(*k, out, at + 9 * i);
     }
 }
 
@@ -45,16 +40,12 @@ pub fn kind_at(s: &[u8], at: usize) -> Kind
     requires { at + 9 ≤ length s.now }
     ensures { result ≡ kind_at (drop at s.now) }
 {
-    if s[at] == 0 {
-        return Kind {
-            residual: Residual::Plain,
-        };
-    }
-    let b = word::word_at(s, at + 1);
-    let h = words::float_of(b);
-    Kind {
-        residual: Residual::Turn(h),
-    }
+    let residual = if s[at] == 0 {
+        Residual::Plain
+    } else {
+        Residual::Turn(words::float_of(word::word_at(s, at + 1)))
+    };
+    Kind { residual }
 }
 
 // Whether there is a kind at place at of s.
@@ -63,15 +54,10 @@ pub fn is_formed(s: &[u8], at: usize) -> bool
     ensures { result ≡ formed (drop at s.now) }
 {
     if s[at] == 0 {
-        if word::word_at(s, at + 1) != 0 {
-            return false;
-        }
-        return true;
+        word::word_at(s, at + 1) == 0
+    } else {
+        s[at] == 1
     }
-    if s[at] != 1 {
-        return false;
-    }
-    true
 }
 
 // The n kinds from place at of s on, then plain ones.
@@ -83,10 +69,8 @@ pub fn kinds_at(s: &[u8], at: usize, n: usize) -> [Kind; 8]
         residual: Residual::Plain,
     };
     let mut kinds = [plain; 8];
-    let mut i = 0usize;
-    while i < n {
-        kinds[i] = kind_at(s, at + 9 * i);
-        i += 1;
+    for (i, k) in kinds[..n].iter_mut().enumerate() {
+        *k = kind_at(s, at + 9 * i);
     }
     kinds
 }
@@ -96,12 +80,5 @@ pub fn all_formed(s: &[u8], at: usize, n: usize) -> bool
     requires { at + 9 * n ≤ length s.now }
     ensures { result ≡ all_true (read_each 9 formed n (drop at s.now)) }
 {
-    let mut i = 0usize;
-    while i < n {
-        if !is_formed(s, at + 9 * i) {
-            return false;
-        }
-        i += 1;
-    }
-    true
+    (0..n).all(|i| is_formed(s, at + 9 * i))
 }

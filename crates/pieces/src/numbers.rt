@@ -12,11 +12,8 @@ pub fn put_numbers(l: &[f64], k: usize, out: &mut [u8], at: usize)
     requires { (k ≤ length l.now) × (at + 8 * k ≤ length out.old) }
     ensures { out.new ≡ sets out.old at (written number_bytes (take k l.now)) }
 {
-    let mut i = 0usize;
-    while i < k {
-        let b = words::bits_of(l[i]);
-        word::put_word(out, at + 8 * i, b);
-        i += 1;
+    for (i, v) in l[..k].iter().enumerate() {
+        word::put_word(out, at + 8 * i, words::bits_of(*v));
     }
 }
 
@@ -25,8 +22,7 @@ pub fn number_at(s: &[u8], at: usize) -> f64
     requires { at + 8 ≤ length s.now }
     ensures { result ≡ number_at (drop at s.now) }
 {
-    let b = word::word_at(s, at);
-    words::float_of(b)
+    words::float_of(word::word_at(s, at))
 }
 
 // The k numbers from place at of s on to the front of out; the rest of out stays.
@@ -34,10 +30,8 @@ fn numbers_at(s: &[u8], at: usize, k: usize, out: &mut [f64])
     requires { (at + 8 * k ≤ length s.now) × (k ≤ length out.old) }
     ensures { out.new ≡ over (read_each 8 number_at k (drop at s.now)) out.old }
 {
-    let mut i = 0usize;
-    while i < k {
-        out[i] = number_at(s, at + 8 * i);
-        i += 1;
+    for (i, v) in out[..k].iter_mut().enumerate() {
+        *v = number_at(s, at + 8 * i);
     }
 }
 

@@ -8,13 +8,9 @@ pub fn word_at(s: &[u8], at: usize) -> u64
     requires { at + 8 ≤ length s.now }
     ensures { result ≡ word_of 8 (drop at s.now) }
 {
-    let mut v = 0u64;
-    let mut k = 8usize;
-    while 0 < k {
-        k -= 1;
-        v = v * 256 + s[at + k] as u64;
-    }
-    v
+    let mut bytes = [0; 8];
+    bytes.copy_from_slice(&s[at..at + 8]);
+    u64::from_le_bytes(bytes)
 }
 
 // The word v from place at of out on; the rest of out stays.
@@ -22,11 +18,5 @@ pub fn put_word(out: &mut [u8], at: usize, v: u64)
     requires { at + 8 ≤ length out.old }
     ensures { out.new ≡ sets out.old at (little_endian 8 v) }
 {
-    let mut rest = v;
-    let mut k = 0usize;
-    while k < 8 {
-        out[at + k] = (rest % 256) as u8;
-        rest = rest / 256;
-        k += 1;
-    }
+    out[at..at + 8].copy_from_slice(&v.to_le_bytes());
 }

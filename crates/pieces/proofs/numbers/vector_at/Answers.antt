@@ -1,0 +1,8 @@
+-- The array starts as zeros. Assumes nothing.
+use Rattle.std.specs.Float.Ieee.{of_bits}
+use Rattle.floats.specs.Numbers.{zeros}
+use Rattle.pieces.proofs.numbers.vector_at.Goals as goal
+
+pub returns : goal.returns
+unfolding zeros of_bits
+returns c = c.numbers_at.ensures
