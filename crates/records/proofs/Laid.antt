@@ -7,10 +7,12 @@ use lib.ListN.{length, take, length-append}
 use lib.Seq.{sets, length-sets, length-take-le}
 use lib.Ieee.{Float}
 use Rattle.floats.specs.Fronts.{over}
-use Rattle.pieces.specs.Bytes.{number_bytes, number_at, written}
+use Rattle.angles.specs.declared.Kind.{Kind}
+use Rattle.std.proofs.lemmas.List.{length-take}
+use Rattle.pieces.specs.Bytes.{number_bytes, number_at, kind_bytes, kind_at, written}
 use Rattle.pieces.proofs.Laws.{written_append, length_written}
 use Rattle.pieces.proofs.Turns.{sets_append, sets_over}
-use Rattle.pieces.proofs.Back.{length_number}
+use Rattle.pieces.proofs.Back.{length_number, length_kind}
 
 -- w is laid from the front of start on, up to place at
 pub record Laid (start w : List ℕ) (at : ℕ) (out : List ℕ) : Type 0 where
@@ -38,3 +40,10 @@ joined h x p q v e = simp (append_assoc, written_append number_bytes)
 
 pub length_numbers : (k : ℕ) (l : List Float) → k ≤ length l → length (written number_bytes (take k l)) ≡ 8 * k
 length_numbers k l h = length_written 8 number_bytes number_at length_number (take k l) ∙ ap (λ (n : ℕ). 8 * n) (length-take-le k l h)
+
+-- no longer than nine bytes a state
+take-le : {A : Type 0} (k : ℕ) (l : List A) → length (take k l) ≤ k
+take-le k l = omega (arith, length-take k l)
+
+pub length_kinds : (k : ℕ) (l : List Kind) → length (written kind_bytes (take k l)) ≤ 9 * k
+length_kinds k l = omega (arith, length_written 9 kind_bytes kind_at length_kind (take k l), take-le k l)

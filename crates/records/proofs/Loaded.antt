@@ -1,13 +1,13 @@
 -- A record that is read: the parts of the filter in it, the order of its refusals, and load in two parts. Assumes nothing.
 use Prim.Native.Nat.{ℕ, ◌+◌, ◌*◌, ◌≤◌, ◌<◌}
 use mathlib.Core.Path.{◌≡◌, refl, sym, ap, ap₂, ◌∙◌}
-use mathlib.Core.Bool.{Bool, true, false}
+use mathlib.Core.Bool.{Bool, true, false, cond, ◌&&◌}
 use mathlib.Core.Logic.{◌≢◌}
 use mathlib.Core.List.{List, [], ◌∷◌, ◌++◌}
 use native.Mathlib.Omega.{arith}
-use borrow.Author.Tests.{leb-true, le-leb, lt-leb}
-use lib.Dec.{leb}
-use lib.ListN.{length, take, drop, replicate}
+use borrow.Author.Tests.{leb-true, le-leb, lt-leb, eq-eqb, ne_eqb}
+use lib.Dec.{leb, eqb}
+use lib.ListN.{length, take, drop, replicate, get_or}
 use lib.Seq.{take_at, drop_at, drop-drop}
 use lib.Ieee.{Float, Format}
 use Rattle.floats.specs.declared.Verdict.{Verdict}
@@ -19,7 +19,7 @@ use Rattle.floats.proofs.Refusals.{gave_zero, gave_number, passed}
 use Rattle.floats.proofs.Search.{Found}
 use Rattle.angles.specs.Kinds.{plain}
 use Rattle.angles.specs.declared.Kind.{Kind}
-use Rattle.pieces.specs.Bytes.{number_at, kind_at, read_each}
+use Rattle.pieces.specs.Bytes.{number_at, kind_at, formed, read_each, all_true}
 use Rattle.pieces.proofs.Laws.{length_read, read_add}
 use Rattle.sigma.specs.declared.Params.{Params}
 use Rattle.filter.specs.declared.Filter.{Filter}
@@ -30,7 +30,7 @@ use Rattle.filter.specs.Records.{numbers, record_length}
 use Rattle.filter.specs.Calls.{as_kinds}
 use Rattle.filter.specs.New.{fresh_track, refused_answer, answer_of, from, inputs_for}
 use Rattle.filter.specs.Load.{filter_of, turn_inputs, states_in, numbers_in, each_kind, filter_in, is_record, load_asks, load_of, load_answer}
-use Rattle.filter.proofs.Sizes.{and_true}
+use Rattle.filter.proofs.Sizes.{and_true, range_le}
 use Rattle.filter.proofs.Order.{found_in_turn}
 use Rattle.records.specs.Parts.{form_of, judged, contents_of}
 
@@ -54,6 +54,9 @@ three b at =
     let one = drop-drop 8 at b in
     let two = ap (drop 8) one ∙ drop-drop 8 (at + 8) b ∙ ap (λ (i : ℕ). drop i b) e in
     ap₂ (λ (c d : List ℕ). number_at (drop at b) ∷ number_at c ∷ number_at d ∷ []) one two
+
+same_params : {a b k x y z : Float} → a ≡ x → b ≡ y → k ≡ z → ◌≡◌ {A = Params} (record { alpha = a; beta = b; kappa = k }) (record { alpha = x; beta = y; kappa = z })
+same_params p q r = rw (p, q, r)
 
 module _ (b : List ℕ) where
   -- ---- where they stand in the bytes
@@ -100,6 +103,19 @@ module _ (b : List ℕ) where
     pub params_read_lem : params ≡ record { alpha = param 3; beta = param 11; kappa = param 19 }
     pub kinds_read : kinds ≡ over (each_kind b kind_at) (replicate 8 plain)
 
+  -- as the code reads them
+  pub parts_of : {x p q : List Float} {α β κ : Float} {kinds : List Kind} → x ≡ over x_in (zeros 8) → p ≡ over p_in (zeros 64) → q ≡ over q_in (zeros 64)
+      → α ≡ param 3 → β ≡ param 11 → κ ≡ param 19
+      → kinds ≡ over (read_each 9 kind_at (states_in b) (drop (27 + 8 * states_in b + 16 * (states_in b * states_in b)) b)) (replicate 8 plain)
+      → Parts x p q (record { alpha = α; beta = β; kappa = κ }) kinds
+  parts_of x p q a b' k e = record {
+    x_read = x;
+    p_read = p;
+    q_read = q;
+    params_read_lem = same_params a b' k;
+    kinds_read = e ∙ ap (λ (l : List Kind). over l (replicate 8 plain)) (kinds_at (27 + 8 * states_in b + 16 * (states_in b * states_in b)) kind_at refl);
+  }
+
   module _ {x p q : List Float} {params : Params} {kinds : List Kind} (r : Parts x p q params kinds) where
     pub parts_filter : filter (sheet (states_in b) q params kinds) (fresh_track x p) ≡ filter_in b
     parts_filter =
@@ -137,6 +153,23 @@ module _ (b : List ℕ) where
       pub by_form : (t : Bool) → record_length (states_in b) ≤ length b → is_record b ≡ t → refusal (unless t RECORD nothing) ≡ refusal (form_of b)
       unfolding form_of in_order
       by_form t l m = rw (le-leb 3 (length b) h, k, le-leb (record_length (states_in b)) (length b) l, m)
+
+  -- how long it has to be, as the code asks it
+  pub long_enough : in_range 1 8 (states_in b) ≡ true → {r : ℕ} → r ≡ cond (leb (states_in b) 8) (record_length (states_in b)) 0 → r ≡ record_length (states_in b)
+  long_enough k e = e ∙ rw (le-leb _ _ (range_le 1 8 _ k))
+
+  -- ---- whether it is a record: its two bytes, then its kinds
+
+  pub first_off : (get_or b 0 0 ≡ 87 → ⊥) → is_record b ≡ false
+  first_off h = ap (λ (t : Bool). t && (eqb (get_or b 1 0) 80 && all_true (each_kind b formed))) (ne_eqb _ _ h)
+
+  pub second_off : get_or b 0 0 ≡ 87 → (get_or b 1 0 ≡ 80 → ⊥) → is_record b ≡ false
+  second_off g h = ap₂ (λ (s t : Bool). s && (t && all_true (each_kind b formed))) (eq-eqb _ _ g) (ne_eqb _ _ h)
+
+  pub kinds_decide : {t : Bool} → get_or b 0 0 ≡ 87 → get_or b 1 0 ≡ 80 → all_true (read_each 9 formed (states_in b) (drop (27 + 8 * states_in b + 16 * (states_in b * states_in b)) b)) ≡ t → is_record b ≡ t
+  kinds_decide g h e =
+      ap₂ (λ (s t : Bool). s && (t && all_true (each_kind b formed))) (eq-eqb _ _ g) (eq-eqb _ _ h)
+      ∙ ap all_true (sym (kinds_at (27 + 8 * states_in b + 16 * (states_in b * states_in b)) formed refl)) ∙ e
 
   -- what a record that has the form is
   pub record Formed : Type 0 where

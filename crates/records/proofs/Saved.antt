@@ -5,6 +5,7 @@ use mathlib.Core.Bool.{Bool, true, false, not, cond}
 use mathlib.Core.List.{List, []}
 use native.Mathlib.Omega.{arith}
 use borrow.Author.Tests.{leb-true}
+use lib.Dec.{leb}
 use lib.ListN.{length}
 use lib.Ieee.{Format}
 use Rattle.floats.specs.declared.Verdict.{Verdict}
@@ -13,13 +14,14 @@ use Rattle.floats.specs.Search.{searched}
 use Rattle.floats.specs.Fronts.{over}
 use Rattle.floats.proofs.Refusals.{number_of, earlier_first, earlier_second}
 use Rattle.filter.specs.declared.Filter.{Filter}
-use Rattle.filter.specs.Asked.{Asks, within, long, every, in_order, guarded, first_refusal}
+use Rattle.filter.specs.Asked.{Asks, within, long, every, in_range, in_order, guarded, first_refusal}
 use Rattle.filter.specs.Filters.{is_shut, seen, reads}
 use Rattle.filter.specs.Records.{record_length, bytes_of}
 use Rattle.filter.specs.Calls.{Call, reading, save, lend_bytes, line, asks}
 use Rattle.filter.specs.Steps.{Stepped, step}
-use Rattle.filter.proofs.Sizes.{and_true, range_le, square_le}
-use Rattle.filter.proofs.Order.{passed, none_told}
+use Rattle.filter.proofs.Sizes.{and_true, within_8, range_le, square_le}
+use Rattle.filter.proofs.Lines.{states_le}
+use Rattle.filter.proofs.Order.{none, passed, none_told, tested_early}
 use Rattle.filter.proofs.Taken.{Told, refused_before, finished}
 
 -- 11 is the last test
@@ -34,6 +36,16 @@ fresh_last true true true true = refl
 -- what is asked before it
 abbrev pub before : Filter → List ℕ → Asks
 before s b = line (is_shut s.track.stage) s.sheet.n [] (lend_bytes b (record_length s.sheet.n)) false [] []
+
+-- as the code asks it
+pub tested : (f : Format) (s : Filter) (b : List ℕ) {v : Verdict} {fits sized : Bool} {needs : ℕ}
+    → v ≡ refusal (in_order fits sized (leb needs (length b)) true false false nothing true true nothing)
+    → fits ≡ is_shut s.track.stage → sized ≡ in_range 1 8 s.sheet.n → needs ≡ cond (leb s.sheet.n 8) (record_length s.sheet.n) 0
+    → v ≡ first_refusal f (before s b)
+tested f s b e h k l =
+    tested_early f _ nothing e h (k ∙ sym (and_true _))
+    (λ z. ap (λ (n : ℕ). leb n (length b)) (l ∙ within_8 _ _ (states_le _ [] z)) ∙ sym (and_true _))
+    refl refl refl (λ z. none) refl (λ z. refl)
 
 module _ (f : Format) (s : Filter) (b : List ℕ) where
   abbrev call : Call

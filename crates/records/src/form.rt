@@ -21,13 +21,7 @@ pub fn form_refusal(s: &[u8]) -> Verdict
     if s.len() < crate::record_length(n) {
         return floats::placeless(2);
     }
-    if s[0] != 0x57 {
-        return floats::placeless(12);
-    }
-    if s[1] != 0x50 {
-        return floats::placeless(12);
-    }
-    if !kinds::all_formed(s, 27 + 8 * n + 16 * (n * n), n) {
+    if s[0] != 0x57 || s[1] != 0x50 || !kinds::all_formed(s, 27 + 8 * n + 16 * (n * n), n) {
         return floats::placeless(12);
     }
     floats::placeless(0)

@@ -22,9 +22,10 @@ pub fn record_length(n: usize) -> usize
     ensures { result ≡ cond (leb n 8) (record_length n) 0 }
 {
     if n <= 8 {
-        return 27 + 17 * n + 16 * (n * n);
+        27 + 17 * n + 16 * (n * n)
+    } else {
+        0
     }
-    0
 }
 
 // The record to the front of out; bytes beyond it stay. Only a stale filter with nothing open is saved.
@@ -33,16 +34,14 @@ pub fn save(f: Filter, out: &mut [u8]) -> Verdict
     ensures out_after { out.new ≡ over (step binary64 f (reading (save out.old))).reply.bytes out.old }
 {
     let n = f.sheet.n;
-    let track = f.track;
-    let stage = track.stage;
-    let fits = checks::is_shut(stage);
+    let fits = checks::is_shut(f.track.stage);
     let sized = checks::is_sized(n);
-    let needs = record_length(n);
-    let refusal = checks::early_refusal(fits, sized, needs <= out.len(), false);
+    let long = record_length(n) <= out.len();
+    let refusal = checks::early_refusal(fits, sized, long, false);
     if refusal.number != 0 {
         return refusal;
     }
-    if !track.stale {
+    if !f.track.stale {
         return floats::placeless(11);
     }
     write::put_record(f, out);

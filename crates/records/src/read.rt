@@ -36,9 +36,7 @@ fn contents_refusal(
     let in_params = floats::next_bad(in_q, Slice::Lone, &values, 3);
     let in_turns = turns::first_bad_turn(n, kinds);
     let found = floats::earlier(in_params, in_turns);
-    let weighing = weights::weights_pass(n, params);
-    let turning = turns::turns_pass(n, kinds);
-    let passing = checks::both(weighing, turning);
+    let passing = weights::weights_pass(n, params) && turns::turns_pass(n, kinds);
     checks::first_refusal(true, true, true, false, found, true, passing)
 }
 
@@ -52,10 +50,11 @@ pub fn contents(s: &[u8]) -> Answer
     let x = numbers::vector_at(s, 3, n);
     let p = numbers::matrix_at(s, 3 + 8 * n, k);
     let q = numbers::matrix_at(s, 3 + 8 * n + 8 * k, k);
-    let alpha = numbers::number_at(s, 3 + 8 * n + 16 * k);
-    let beta = numbers::number_at(s, 11 + 8 * n + 16 * k);
-    let kappa = numbers::number_at(s, 19 + 8 * n + 16 * k);
-    let params = Params { alpha, beta, kappa };
+    let params = Params {
+        alpha: numbers::number_at(s, 3 + 8 * n + 16 * k),
+        beta: numbers::number_at(s, 11 + 8 * n + 16 * k),
+        kappa: numbers::number_at(s, 19 + 8 * n + 16 * k),
+    };
     let kinds = kinds::kinds_at(s, 27 + 8 * n + 16 * k, n);
     let refusal = contents_refusal(n, &x, &p, &q, params, kinds);
     if refusal.number != 0 {

@@ -14,15 +14,14 @@ pub fn first_bad_turn(n: usize, kinds: [Kind; 8]) -> Verdict
     requires { n ≤ 8 }
     ensures { result ≡ refusal (searched (turn_inputs (take n kinds))) }
 {
-    let mut i = 0usize;
-    while i < n {
-        let h = angles::half_of(kinds[i]);
-        if !floats::is_finite(h) {
-            return floats::placeless(56);
-        }
-        i += 1;
+    if kinds[..n]
+        .iter()
+        .all(|k| floats::is_finite(angles::half_of(*k)))
+    {
+        floats::placeless(0)
+    } else {
+        floats::placeless(56)
     }
-    floats::placeless(0)
 }
 
 // Whether the first n kinds pass 6.
@@ -30,12 +29,5 @@ pub fn turns_pass(n: usize, kinds: [Kind; 8]) -> bool
     requires { n ≤ 8 }
     ensures { result ≡ every (passing binary64) (take n kinds) }
 {
-    let mut i = 0usize;
-    while i < n {
-        if !angles::kind_passes(kinds[i]) {
-            return false;
-        }
-        i += 1;
-    }
-    true
+    kinds[..n].iter().all(|k| angles::kind_passes(*k))
 }

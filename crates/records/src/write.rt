@@ -16,15 +16,11 @@ pub fn put_record(f: Filter, out: &mut [u8])
     out[0] = 0x57;
     out[1] = 0x50;
     out[2] = n as u8;
-    let x = f.track.x;
-    numbers::put_numbers(&x, n, out, 3);
-    let p = f.track.p;
-    numbers::put_numbers(&p, k, out, 3 + 8 * n);
-    let q = f.sheet.q;
-    numbers::put_numbers(&q, k, out, 3 + 8 * n + 8 * k);
+    numbers::put_numbers(&f.track.x, n, out, 3);
+    numbers::put_numbers(&f.track.p, k, out, 3 + 8 * n);
+    numbers::put_numbers(&f.sheet.q, k, out, 3 + 8 * n + 8 * k);
     let params = f.sheet.params;
-    let v = [params.alpha, params.beta, params.kappa];
-    numbers::put_numbers(&v, 3, out, 3 + 8 * n + 16 * k);
-    let kinds = f.sheet.kinds;
-    kinds::put_kinds(kinds, n, out, 27 + 8 * n + 16 * k);
+    let values = [params.alpha, params.beta, params.kappa];
+    numbers::put_numbers(&values, 3, out, 3 + 8 * n + 16 * k);
+    kinds::put_kinds(f.sheet.kinds, n, out, 27 + 8 * n + 16 * k);
 }
