@@ -3,7 +3,9 @@ use Prim.Native.Nat.{ℕ, ◌+◌, ◌*◌}
 use mathlib.Core.Path.{◌≡◌, refl, sym, ap, ◌∙◌}
 use mathlib.Core.Bool.{Bool, true, false, not, ◌&&◌, cond, false≢true}
 use mathlib.Core.List.{List, []}
-use lib.Dec.{leb}
+use native.Mathlib.Omega.{arith}
+use Rattle.std.proofs.lemmas.Bool.Decides.{nat_tests}
+use lib.Dec.{leb, eqb}
 use lib.ListN.{take, drop}
 use lib.Ieee.{Float, Format}
 use Rattle.matrix.specs.Results.{finish}
@@ -11,11 +13,17 @@ use Rattle.filter.specs.declared.Stage.{Stage}
 use Rattle.filter.specs.declared.Stage.TheVariants.{Shut, Predicting, Correcting, PredictingStepped, CorrectingStepped}
 use Rattle.filter.specs.declared.Kept.{Kept}
 use Rattle.filter.specs.declared.Filter.{Filter}
-use Rattle.filter.specs.Asked.{Asks, in_order, guarded, first_refusal}
+use Rattle.filter.specs.Asked.{Asks, in_range, within, every, in_order, guarded, first_refusal}
 use Rattle.filter.specs.Filters.{is_shut, is_predicting_stepped, is_correcting_stepped, is_stepped, nothing_kept, seen, keeps}
-use Rattle.filter.specs.Calls.{ask, image_prediction, image_correction, close_prediction_stepped, close_correction_stepped, close_correction_flat_stepped, Call, writing, setting, stepping, closing, closing_stepped, abandon, reading, fits, asks, done, asked_for, handed_in, plan}
+use Rattle.filter.specs.Calls.{ask, image_prediction, image_correction, close_prediction_stepped, close_correction_stepped, close_correction_flat_stepped, Call, writing, setting, stepping, closing, closing_stepped, abandon, reading, fits, asks, sized, done, asked_for, handed_in, plan}
 use Rattle.filter.proofs.Sizes.{and_left}
 use Rattle.stepped.specs.Ways.{at_stage}
+
+-- ---- within m to m is m itself
+
+pub itself : (n m : ℕ) → eqb m n ≡ every within (sized m n n)
+unfolding in_range
+itself n m = grind (arith, nat_tests)
 
 -- ---- the stage of a stepped call
 

@@ -236,3 +236,9 @@ module _ (f : Format) {s : Filter} {c : SteppedClose} {v : Verdict} (t : Tested 
       go false b x y = told (tests x y) (unfit f (asks (seen s) (closing_stepped c)) (run (plan f (seen s) (closing_stepped c))) (fits_seen s (closing_stepped c) ∙ x))
       go true false x y = told (tests x y) (unsized f (asks (seen s) (closing_stepped c)) (run (plan f (seen s) (closing_stepped c))) (fits_seen s (closing_stepped c) ∙ x) (unnamed x y))
       go true true x y = absurd (h (number_of (tests x y)))
+
+-- a close that has gone on: g is the filter at the stage of the whole-list close, and w the images
+pub whole_closed : (f : Format) {s : Filter} {c : SteppedClose} {v : Verdict} (t : Tested s c v) → v.number ≡ 0 → {g : Filter} {w : List Float} {a r : Answer}
+    → g ≡ at_stage s (whole_stage (sort_of c)) → w ≡ s.track.kept.images → a ≡ answered (step f g (closing (with_list c w))) → r ≡ unless_refused s a → r ≡ answered (step f s (closing_stepped c))
+whole_closed f {s} {c} t z e h d q =
+    q ∙ ap (unless_refused s) (d ∙ ap₂ (λ (g : Filter) (w : List Float). answered (step f g (closing (with_list c w)))) e h) ∙ sym (ready f t z)

@@ -12,11 +12,7 @@ pub fn copy(s: &[f64], a: usize, k: usize, d: &mut [f64], b: usize)
     requires { (a + k ≤ length s.now) × (b + k ≤ length d.old) }
     ensures { d.new ≡ paste d.old b (drop a s.now) k }
 {
-    let mut i = 0usize;
-    while i < k {
-        d[b + i] = s[a + i];
-        i += 1;
-    }
+    d[b..b + k].copy_from_slice(&s[a..a + k]);
 }
 
 // The list that they are, and the list of the points that were drawn.
@@ -37,21 +33,18 @@ pub fn take_in(f: Filter, m: usize, d: usize, image: &[f64]) -> Answer
     requires { (d ≤ 8) × (f.track.kept.at ≤ 16) × (d ≤ length image.now) }
     ensures { result ≡ record { filter = filter f.sheet (with_kept f.track (handed_in f.track.kept m d image.now)); refusal = taken } }
 {
-    let sheet = f.sheet;
-    let mut track = f.track;
-    let kept = track.kept;
-    let at = kept.at;
-    let mut images = images(kept);
+    let at = f.track.kept.at;
+    let mut images = images(f.track.kept);
     copy(image, 0, d, &mut images, at * d);
-    let next = Kept {
+    let kept = Kept {
         at: at + 1,
         asked: false,
         m,
         images,
     };
-    track.kept = next;
+    let track = Track { kept, ..f.track };
     Answer {
-        filter: Filter { sheet, track },
+        filter: Filter { track, ..f },
         refusal: floats::placeless(0),
     }
 }

@@ -8,7 +8,7 @@ ghost use Rattle.filter.specs.Calls.{setting, open_prediction_stepped, open_corr
 ghost use Rattle.filter.specs.Steps.{step, answered};
 
 use angles::Kind;
-use filter::{Answer, Filter, Stage, checks};
+use filter::{Answer, Filter, Kept, Stage, Track, checks};
 use floats::Slice;
 
 mod kept;
@@ -40,25 +40,22 @@ pub fn ask(f: Filter, out: &mut [f64]) -> Answer
     ensures value { result ≡ answered (step binary64 f (stepping (ask out.old))) }
     ensures out_after { out.new ≡ over (step binary64 f (stepping (ask out.old))).reply.given out.old }
 {
-    let sheet = f.sheet;
-    let mut track = f.track;
-    let n = sheet.n;
-    let stage = track.stage;
-    let mut kept = track.kept;
-    let stepped = tests::is_stepped(stage);
-    let due = tests::has_point(n, kept.at);
-    let fits = checks::both(stepped, due);
+    let n = f.sheet.n;
+    let at = f.track.kept.at;
+    let fits = tests::is_stepped(f.track.stage) && tests::has_point(n, at);
     let sized = checks::is_sized(n);
     let refusal = checks::early_refusal(fits, sized, n <= out.len(), false);
     if refusal.number != 0 {
         return Answer { filter: f, refusal };
     }
-    let points = kept::drawn(track);
-    kept::copy(&points, kept.at * n, n, out, 0);
-    kept.asked = true;
-    track.kept = kept;
+    kept::copy(&kept::drawn(f.track), at * n, n, out, 0);
+    let kept = Kept {
+        asked: true,
+        ..f.track.kept
+    };
+    let track = Track { kept, ..f.track };
     Answer {
-        filter: Filter { sheet, track },
+        filter: Filter { track, ..f },
         refusal,
     }
 }
@@ -67,12 +64,7 @@ pub fn image_prediction(f: Filter, image: &[f64]) -> Answer
     ensures { result ≡ answered (step binary64 f (stepping (image_prediction image.now))) }
 {
     let n = f.sheet.n;
-    let track = f.track;
-    let stage = track.stage;
-    let kept = track.kept;
-    let predicting = tests::is_predicting_stepped(stage);
-    let ready = tests::is_ready(n, kept);
-    let fits = checks::both(predicting, ready);
+    let fits = tests::is_predicting_stepped(f.track.stage) && tests::is_ready(n, f.track.kept);
     let sized = checks::is_sized(n);
     let found = floats::first_bad(Slice::Points, image, n);
     let refusal = checks::first_refusal(fits, sized, n <= image.len(), false, found, true, true);
@@ -86,15 +78,9 @@ pub fn image_correction(f: Filter, m: usize, image: &[f64]) -> Answer
     ensures { result ≡ answered (step binary64 f (stepping (image_correction m image.now))) }
 {
     let n = f.sheet.n;
-    let track = f.track;
-    let stage = track.stage;
-    let kept = track.kept;
-    let correcting = tests::is_correcting_stepped(stage);
-    let ready = tests::is_ready(n, kept);
-    let fits = checks::both(correcting, ready);
-    let states = checks::is_sized(n);
-    let measured = tests::is_measured(kept.m, m);
-    let sized = checks::both(states, measured);
+    let kept = f.track.kept;
+    let fits = tests::is_correcting_stepped(f.track.stage) && tests::is_ready(n, kept);
+    let sized = checks::is_sized(n) && tests::is_measured(kept.m, m);
     let found = floats::first_bad(Slice::Points, image, m);
     let refusal = checks::first_refusal(fits, sized, m <= image.len(), false, found, true, true);
     if refusal.number != 0 {
@@ -108,15 +94,12 @@ pub fn image_correction(f: Filter, m: usize, image: &[f64]) -> Answer
 pub fn close_prediction(f: Filter) -> Answer
     ensures { result ≡ answered (step binary64 f (closing_stepped close_prediction_stepped)) }
 {
-    let track = f.track;
-    let stage = track.stage;
-    let kept = track.kept;
-    let own = tests::is_predicting_stepped(stage);
+    let own = tests::is_predicting_stepped(f.track.stage);
     let refusal = whole::unready(f, own, true);
     if refusal.number != 0 {
         return Answer { filter: f, refusal };
     }
-    let images = kept::images(kept);
+    let images = kept::images(f.track.kept);
     let g = whole::at_stage(f, Stage::Predicting);
     let a = g.close_prediction(&images);
     whole::unless_refused(f, a)
@@ -125,16 +108,13 @@ pub fn close_prediction(f: Filter) -> Answer
 pub fn close_correction(f: Filter, m: usize, z: &[f64], r: &[f64], kinds: [Kind; 4]) -> Answer
     ensures { result ≡ answered (step binary64 f (closing_stepped (close_correction_stepped m z.now r.now kinds))) }
 {
-    let track = f.track;
-    let stage = track.stage;
-    let kept = track.kept;
-    let own = tests::is_correcting_stepped(stage);
-    let named = tests::is_named(kept.m, m);
+    let own = tests::is_correcting_stepped(f.track.stage);
+    let named = tests::is_named(f.track.kept.m, m);
     let refusal = whole::unready(f, own, named);
     if refusal.number != 0 {
         return Answer { filter: f, refusal };
     }
-    let images = kept::images(kept);
+    let images = kept::images(f.track.kept);
     let g = whole::at_stage(f, Stage::Correcting);
     let a = g.close_correction(m, z, r, kinds, &images);
     whole::unless_refused(f, a)
@@ -143,16 +123,13 @@ pub fn close_correction(f: Filter, m: usize, z: &[f64], r: &[f64], kinds: [Kind;
 pub fn close_correction_flat(f: Filter, m: usize, z: &[f64], r: &[f64]) -> Answer
     ensures { result ≡ answered (step binary64 f (closing_stepped (close_correction_flat_stepped m z.now r.now))) }
 {
-    let track = f.track;
-    let stage = track.stage;
-    let kept = track.kept;
-    let own = tests::is_correcting_stepped(stage);
-    let named = tests::is_named(kept.m, m);
+    let own = tests::is_correcting_stepped(f.track.stage);
+    let named = tests::is_named(f.track.kept.m, m);
     let refusal = whole::unready(f, own, named);
     if refusal.number != 0 {
         return Answer { filter: f, refusal };
     }
-    let images = kept::images(kept);
+    let images = kept::images(f.track.kept);
     let g = whole::at_stage(f, Stage::Correcting);
     let a = g.close_correction_flat(m, z, r, &images);
     whole::unless_refused(f, a)

@@ -11,55 +11,33 @@ use filter::{Kept, Stage, checks};
 pub fn is_predicting_stepped(s: Stage) -> bool
     ensures { result ≡ is_predicting_stepped s }
 {
-    match s {
-        Stage::Shut => false,
-        Stage::Predicting => false,
-        Stage::Correcting => false,
-        Stage::PredictingStepped => true,
-        Stage::CorrectingStepped => false,
-    }
+    matches!(s, Stage::PredictingStepped)
 }
 
 pub fn is_correcting_stepped(s: Stage) -> bool
     ensures { result ≡ is_correcting_stepped s }
 {
-    match s {
-        Stage::Shut => false,
-        Stage::Predicting => false,
-        Stage::Correcting => false,
-        Stage::PredictingStepped => false,
-        Stage::CorrectingStepped => true,
-    }
+    matches!(s, Stage::CorrectingStepped)
 }
 
 pub fn is_stepped(s: Stage) -> bool
     ensures { result ≡ is_stepped s }
 {
-    match s {
-        Stage::Shut => false,
-        Stage::Predicting => false,
-        Stage::Correcting => false,
-        Stage::PredictingStepped => true,
-        Stage::CorrectingStepped => true,
-    }
+    matches!(s, Stage::PredictingStepped | Stage::CorrectingStepped)
 }
 
 // Whether n states have a point k, whatever n.
 pub fn has_point(n: usize, k: usize) -> bool
     ensures { result ≡ leb k (n + n) }
 {
-    if k <= n {
-        return true;
-    }
-    k - n <= n
+    k <= n || k - n <= n
 }
 
 // Whether a point is due and has been asked for.
 pub fn is_ready(n: usize, kept: Kept) -> bool
     ensures { result ≡ (leb kept.at (n + n) && kept.asked) }
 {
-    let due = has_point(n, kept.at);
-    checks::both(due, kept.asked)
+    has_point(n, kept.at) && kept.asked
 }
 
 // ---- 1
@@ -68,17 +46,12 @@ pub fn is_ready(n: usize, kept: Kept) -> bool
 pub fn is_named(named: usize, m: usize) -> bool
     ensures { result ≡ every within (cond (eqb named 0) [] (sized m named named)) }
 {
-    if named == 0 {
-        return true;
-    }
-    checks::in_range(named, named, m)
+    named == 0 || m == named
 }
 
 // Whether m is 1 to 4, and that one.
 pub fn is_measured(named: usize, m: usize) -> bool
     ensures { result ≡ every within (sized m 1 4 ++ cond (eqb named 0) [] (sized m named named)) }
 {
-    let measurements = checks::in_range(1, 4, m);
-    let same = is_named(named, m);
-    checks::both(measurements, same)
+    checks::in_range(1, 4, m) && is_named(named, m)
 }
