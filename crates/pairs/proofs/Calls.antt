@@ -16,7 +16,9 @@ use Rattle.filter.specs.declared.Filter.{Filter}
 use Rattle.filter.specs.declared.Answer.{Answer}
 use Rattle.filter.specs.Filters.{is_shut, seen, writes}
 use Rattle.filter.specs.Calls.{SheetCall, Call, writing, sheet_needs, asking, Done, done, writing_of}
-use Rattle.filter.specs.Steps.{outcome, Reply, stepped, step, answered}
+use Rattle.filter.specs.declared.ParamsRead.{ParamsRead}
+use Rattle.filter.specs.declared.StaleRead.{StaleRead}
+use Rattle.filter.specs.Steps.{outcome, Reply, stepped, step, answered, params_read, stale_read}
 use Rattle.pairs.specs.declared.Pair.{Pair}
 use Rattle.pairs.specs.declared.PairAnswer.{PairAnswer}
 use Rattle.pairs.specs.declared.Side.{Side}
@@ -44,8 +46,17 @@ module _ (f : Format) (p : Pair) where
   own_reply w c h = rw h
 
   -- what is made of its reply, and a buffer b that its numbers or its bytes go to
-  pub own_told : {A : Type 0} (g : Reply → A) (w : Side) (c : Call) {s : Filter} {r : A} → on_sheet c ≡ false → s ≡ solo p w → r ≡ g (step f s c).reply → r ≡ g (pair_step f p w c).reply
+  own_told : {A : Type 0} (g : Reply → A) (w : Side) (c : Call) {s : Filter} {r : A} → on_sheet c ≡ false → s ≡ solo p w → r ≡ g (step f s c).reply → r ≡ g (pair_step f p w c).reply
   own_told g w c h e d = d ∙ ap (λ (t : Filter). g (step f t c).reply) e ∙ ap g (own_reply w c h)
+
+  pub own_refusal : (w : Side) (c : Call) {s : Filter} {r : Verdict} → on_sheet c ≡ false → s ≡ solo p w → r ≡ (step f s c).reply.refusal → r ≡ (pair_step f p w c).reply.refusal
+  own_refusal = own_told (λ (r : Reply). r.refusal)
+
+  pub own_params : (w : Side) (c : Call) {s : Filter} {r : ParamsRead} → on_sheet c ≡ false → s ≡ solo p w → r ≡ params_read (step f s c).reply → r ≡ params_read (pair_step f p w c).reply
+  own_params = own_told params_read
+
+  pub own_stale : (w : Side) (c : Call) {s : Filter} {r : StaleRead} → on_sheet c ≡ false → s ≡ solo p w → r ≡ stale_read (step f s c).reply → r ≡ stale_read (pair_step f p w c).reply
+  own_stale = own_told stale_read
 
   own_lent : {A : Type 0} (g : Reply → List A) (w : Side) (c : Call) (b : List A) {s : Filter} {b' : List A} → on_sheet c ≡ false → s ≡ solo p w → b' ≡ over (g (step f s c).reply) b → b' ≡ over (g (pair_step f p w c).reply) b
   own_lent g w c b h e d = own_told (λ (r : Reply). over (g r) b) w c h e d

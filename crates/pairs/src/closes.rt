@@ -7,12 +7,12 @@ ghost use Rattle.pairs.specs.Pairs.{pair_step, pair_answered};
 use crate::{Pair, PairAnswer, Side, sides};
 use angles::Kind;
 
+#[tactic(auto, using(crate::proofs::Calls::own_call))]
 impl Pair {
     pub fn close_prediction(self, side: Side, points: &[f64]) -> PairAnswer
         ensures { result ≡ pair_answered (pair_step binary64 self side (closing (close_prediction points.now))) }
     {
-        let f = sides::solo(self, side);
-        let a = f.close_prediction(points);
+        let a = sides::solo(self, side).close_prediction(points);
         sides::put(self, side, a)
     }
 
@@ -27,8 +27,7 @@ impl Pair {
     ) -> PairAnswer
         ensures { result ≡ pair_answered (pair_step binary64 self side (closing (close_correction m z.now r.now kinds observed.now))) }
     {
-        let f = sides::solo(self, side);
-        let a = f.close_correction(m, z, r, kinds, observed);
+        let a = sides::solo(self, side).close_correction(m, z, r, kinds, observed);
         sides::put(self, side, a)
     }
 
@@ -42,8 +41,7 @@ impl Pair {
     ) -> PairAnswer
         ensures { result ≡ pair_answered (pair_step binary64 self side (closing (close_correction_flat m z.now r.now observed.now))) }
     {
-        let f = sides::solo(self, side);
-        let a = f.close_correction_flat(m, z, r, observed);
+        let a = sides::solo(self, side).close_correction_flat(m, z, r, observed);
         sides::put(self, side, a)
     }
 }

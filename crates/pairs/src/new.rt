@@ -22,31 +22,23 @@ impl Pair {
         let a = Track::new(n, x1, p1);
         let b = Track::new(n, x2, p2);
         let c = Sheet::new(n, q, params);
-        let of_first = a.refusal;
-        let of_second = b.refusal;
-        let of_sheet = c.refusal;
-        let later = new::sooner(of_second, of_sheet);
-        let refusal = new::sooner(of_first, later);
+        let refusal = new::sooner(a.refusal, new::sooner(b.refusal, c.refusal));
         if refusal.number != 0 {
-            let sheet = new::empty_sheet();
             let track = new::empty_track();
             return PairAnswer {
                 pair: Pair {
-                    sheet,
+                    sheet: new::empty_sheet(),
                     first: track,
                     second: track,
                 },
                 refusal,
             };
         }
-        let sheet = c.sheet;
-        let first = a.track;
-        let second = b.track;
         PairAnswer {
             pair: Pair {
-                sheet,
-                first,
-                second,
+                sheet: c.sheet,
+                first: a.track,
+                second: b.track,
             },
             refusal,
         }

@@ -7,13 +7,13 @@ ghost use Rattle.pairs.specs.Pairs.{pair_step, pair_answered};
 
 use crate::{Pair, PairAnswer, Side, sides};
 
+#[tactic(auto, using(crate::proofs::Calls::own_call, crate::proofs::Calls::own_given))]
 impl Pair {
     pub fn open_prediction(self, side: Side, out: &mut [f64]) -> PairAnswer
         ensures value { result ≡ pair_answered (pair_step binary64 self side (setting (open_prediction out.old))) }
         ensures out_after { out.new ≡ over (pair_step binary64 self side (setting (open_prediction out.old))).reply.given out.old }
     {
-        let f = sides::solo(self, side);
-        let a = f.open_prediction(out);
+        let a = sides::solo(self, side).open_prediction(out);
         sides::put(self, side, a)
     }
 
@@ -21,16 +21,14 @@ impl Pair {
         ensures value { result ≡ pair_answered (pair_step binary64 self side (setting (open_correction out.old))) }
         ensures out_after { out.new ≡ over (pair_step binary64 self side (setting (open_correction out.old))).reply.given out.old }
     {
-        let f = sides::solo(self, side);
-        let a = f.open_correction(out);
+        let a = sides::solo(self, side).open_correction(out);
         sides::put(self, side, a)
     }
 
     pub fn abandon(self, side: Side) -> PairAnswer
         ensures { result ≡ pair_answered (pair_step binary64 self side abandon) }
     {
-        let f = sides::solo(self, side);
-        let a = f.abandon();
+        let a = sides::solo(self, side).abandon();
         sides::put(self, side, a)
     }
 }

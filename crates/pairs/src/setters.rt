@@ -9,50 +9,43 @@ use crate::{Pair, PairAnswer, Side, sides};
 use angles::Kind;
 use sigma::Params;
 
+#[tactic(auto, using(crate::proofs::Calls::own_call, crate::proofs::Calls::sheet_call))]
 impl Pair {
     pub fn set_x(self, side: Side, src: &[f64]) -> PairAnswer
         ensures { result ≡ pair_answered (pair_step binary64 self side (setting (set_x src.now))) }
     {
-        let f = sides::solo(self, side);
-        let a = f.set_x(src);
+        let a = sides::solo(self, side).set_x(src);
         sides::put(self, side, a)
     }
 
     pub fn set_p(self, side: Side, src: &[f64]) -> PairAnswer
         ensures { result ≡ pair_answered (pair_step binary64 self side (setting (set_p src.now))) }
     {
-        let f = sides::solo(self, side);
-        let a = f.set_p(src);
+        let a = sides::solo(self, side).set_p(src);
         sides::put(self, side, a)
     }
 
     pub fn set_q(self, src: &[f64]) -> PairAnswer
         ensures { (side : Side) → result ≡ pair_answered (pair_step binary64 self side (writing (set_q src.now))) }
     {
-        let f = sides::solo(self, Side::First);
-        let g = sides::solo(self, Side::Second);
-        let a = f.set_q(src);
-        let b = g.set_q(src);
+        let a = sides::solo(self, Side::First).set_q(src);
+        let b = sides::solo(self, Side::Second).set_q(src);
         sides::rewritten(self, a, b)
     }
 
     pub fn set_params(self, params: Params) -> PairAnswer
         ensures { (side : Side) → result ≡ pair_answered (pair_step binary64 self side (writing (set_params params))) }
     {
-        let f = sides::solo(self, Side::First);
-        let g = sides::solo(self, Side::Second);
-        let a = f.set_params(params);
-        let b = g.set_params(params);
+        let a = sides::solo(self, Side::First).set_params(params);
+        let b = sides::solo(self, Side::Second).set_params(params);
         sides::rewritten(self, a, b)
     }
 
     pub fn set_kind(self, i: usize, kind: Kind) -> PairAnswer
         ensures { (side : Side) → result ≡ pair_answered (pair_step binary64 self side (writing (set_kind i kind))) }
     {
-        let f = sides::solo(self, Side::First);
-        let g = sides::solo(self, Side::Second);
-        let a = f.set_kind(i, kind);
-        let b = g.set_kind(i, kind);
+        let a = sides::solo(self, Side::First).set_kind(i, kind);
+        let b = sides::solo(self, Side::Second).set_kind(i, kind);
         sides::rewritten(self, a, b)
     }
 }

@@ -8,18 +8,13 @@ use filter::{Answer, Filter};
 pub fn solo(p: Pair, side: Side) -> Filter
     ensures { result ≡ solo p side }
 {
-    let sheet = p.sheet;
-    let first = p.first;
-    let second = p.second;
-    match side {
-        Side::First => Filter {
-            sheet,
-            track: first,
-        },
-        Side::Second => Filter {
-            sheet,
-            track: second,
-        },
+    let track = match side {
+        Side::First => p.first,
+        Side::Second => p.second,
+    };
+    Filter {
+        sheet: p.sheet,
+        track,
     }
 }
 
@@ -27,29 +22,22 @@ pub fn solo(p: Pair, side: Side) -> Filter
 pub fn put(p: Pair, side: Side, a: Answer) -> PairAnswer
     ensures { result ≡ put p side a }
 {
-    let filter = a.filter;
-    let sheet = filter.sheet;
-    let track = filter.track;
-    let first = p.first;
-    let second = p.second;
-    let refusal = a.refusal;
-    match side {
-        Side::First => PairAnswer {
-            pair: Pair {
-                sheet,
-                first: track,
-                second,
-            },
-            refusal,
+    let Filter { sheet, track } = a.filter;
+    let pair = match side {
+        Side::First => Pair {
+            sheet,
+            first: track,
+            ..p
         },
-        Side::Second => PairAnswer {
-            pair: Pair {
-                sheet,
-                first,
-                second: track,
-            },
-            refusal,
+        Side::Second => Pair {
+            sheet,
+            second: track,
+            ..p
         },
+    };
+    PairAnswer {
+        pair,
+        refusal: a.refusal,
     }
 }
 
@@ -57,22 +45,19 @@ pub fn put(p: Pair, side: Side, a: Answer) -> PairAnswer
 pub fn rewritten(p: Pair, a: Answer, b: Answer) -> PairAnswer
     ensures { result ≡ rewritten p a b }
 {
-    let of_first = a.refusal;
-    if of_first.number == 3 {
+    if a.refusal.number == 3 {
         return PairAnswer {
             pair: p,
-            refusal: of_first,
+            refusal: a.refusal,
         };
     }
     let refusal = b.refusal;
     if refusal.number != 0 {
         return PairAnswer { pair: p, refusal };
     }
-    let one = a.filter;
-    let other = b.filter;
-    let sheet = one.sheet;
-    let first = one.track;
-    let second = other.track;
+    let sheet = a.filter.sheet;
+    let first = a.filter.track;
+    let second = b.filter.track;
     PairAnswer {
         pair: Pair {
             sheet,

@@ -8,20 +8,19 @@ ghost use Rattle.pairs.specs.Pairs.{pair_step, pair_answered};
 use crate::{Pair, PairAnswer, Side, sides};
 use angles::Kind;
 
+#[tactic(auto, using(crate::proofs::Calls::own_call, crate::proofs::Calls::own_given))]
 impl Pair {
     pub fn open_prediction_stepped(self, side: Side) -> PairAnswer
         ensures { result ≡ pair_answered (pair_step binary64 self side (setting open_prediction_stepped)) }
     {
-        let f = sides::solo(self, side);
-        let a = stepped::open_prediction(f);
+        let a = stepped::open_prediction(sides::solo(self, side));
         sides::put(self, side, a)
     }
 
     pub fn open_correction_stepped(self, side: Side) -> PairAnswer
         ensures { result ≡ pair_answered (pair_step binary64 self side (setting open_correction_stepped)) }
     {
-        let f = sides::solo(self, side);
-        let a = stepped::open_correction(f);
+        let a = stepped::open_correction(sides::solo(self, side));
         sides::put(self, side, a)
     }
 
@@ -29,32 +28,28 @@ impl Pair {
         ensures value { result ≡ pair_answered (pair_step binary64 self side (stepping (ask out.old))) }
         ensures out_after { out.new ≡ over (pair_step binary64 self side (stepping (ask out.old))).reply.given out.old }
     {
-        let f = sides::solo(self, side);
-        let a = stepped::ask(f, out);
+        let a = stepped::ask(sides::solo(self, side), out);
         sides::put(self, side, a)
     }
 
     pub fn image_prediction(self, side: Side, image: &[f64]) -> PairAnswer
         ensures { result ≡ pair_answered (pair_step binary64 self side (stepping (image_prediction image.now))) }
     {
-        let f = sides::solo(self, side);
-        let a = stepped::image_prediction(f, image);
+        let a = stepped::image_prediction(sides::solo(self, side), image);
         sides::put(self, side, a)
     }
 
     pub fn image_correction(self, side: Side, m: usize, image: &[f64]) -> PairAnswer
         ensures { result ≡ pair_answered (pair_step binary64 self side (stepping (image_correction m image.now))) }
     {
-        let f = sides::solo(self, side);
-        let a = stepped::image_correction(f, m, image);
+        let a = stepped::image_correction(sides::solo(self, side), m, image);
         sides::put(self, side, a)
     }
 
     pub fn close_prediction_stepped(self, side: Side) -> PairAnswer
         ensures { result ≡ pair_answered (pair_step binary64 self side (closing_stepped close_prediction_stepped)) }
     {
-        let f = sides::solo(self, side);
-        let a = stepped::close_prediction(f);
+        let a = stepped::close_prediction(sides::solo(self, side));
         sides::put(self, side, a)
     }
 
@@ -68,8 +63,7 @@ impl Pair {
     ) -> PairAnswer
         ensures { result ≡ pair_answered (pair_step binary64 self side (closing_stepped (close_correction_stepped m z.now r.now kinds))) }
     {
-        let f = sides::solo(self, side);
-        let a = stepped::close_correction(f, m, z, r, kinds);
+        let a = stepped::close_correction(sides::solo(self, side), m, z, r, kinds);
         sides::put(self, side, a)
     }
 
@@ -82,8 +76,7 @@ impl Pair {
     ) -> PairAnswer
         ensures { result ≡ pair_answered (pair_step binary64 self side (closing_stepped (close_correction_flat_stepped m z.now r.now))) }
     {
-        let f = sides::solo(self, side);
-        let a = stepped::close_correction_flat(f, m, z, r);
+        let a = stepped::close_correction_flat(sides::solo(self, side), m, z, r);
         sides::put(self, side, a)
     }
 }
