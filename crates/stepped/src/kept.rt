@@ -15,26 +15,13 @@ pub fn copy(s: &[f64], a: usize, k: usize, d: &mut [f64], b: usize)
     d[b..b + k].copy_from_slice(&s[a..a + k]);
 }
 
-// The list that they are, and the list of the points that were drawn.
-pub fn images(k: Kept) -> [f64; 136]
-    ensures { result ≡ k.images }
-{
-    k.images
-}
-
-pub fn drawn(t: Track) -> [f64; 136]
-    ensures { result ≡ t.drawn_points }
-{
-    t.drawn_points
-}
-
 // An image of d numbers is in, with the m that it names, and the next point is to be asked for.
 pub fn take_in(f: Filter, m: usize, d: usize, image: &[f64]) -> Answer
     requires { (d ≤ 8) × (f.track.kept.at ≤ 16) × (d ≤ length image.now) }
     ensures { result ≡ record { filter = filter f.sheet (with_kept f.track (handed_in f.track.kept m d image.now)); refusal = taken } }
 {
     let at = f.track.kept.at;
-    let mut images = images(f.track.kept);
+    let mut images = f.track.kept.images;
     copy(image, 0, d, &mut images, at * d);
     let kept = Kept {
         at: at + 1,

@@ -48,7 +48,7 @@ pub fn ask(f: Filter, out: &mut [f64]) -> Answer
     if refusal.number != 0 {
         return Answer { filter: f, refusal };
     }
-    kept::copy(&kept::drawn(f.track), at * n, n, out, 0);
+    kept::copy(&f.track.drawn_points, at * n, n, out, 0);
     let kept = Kept {
         asked: true,
         ..f.track.kept
@@ -99,9 +99,8 @@ pub fn close_prediction(f: Filter) -> Answer
     if refusal.number != 0 {
         return Answer { filter: f, refusal };
     }
-    let images = kept::images(f.track.kept);
     let g = whole::at_stage(f, Stage::Predicting);
-    let a = g.close_prediction(&images);
+    let a = g.close_prediction(&f.track.kept.images);
     whole::unless_refused(f, a)
 }
 
@@ -114,9 +113,8 @@ pub fn close_correction(f: Filter, m: usize, z: &[f64], r: &[f64], kinds: [Kind;
     if refusal.number != 0 {
         return Answer { filter: f, refusal };
     }
-    let images = kept::images(f.track.kept);
     let g = whole::at_stage(f, Stage::Correcting);
-    let a = g.close_correction(m, z, r, kinds, &images);
+    let a = g.close_correction(m, z, r, kinds, &f.track.kept.images);
     whole::unless_refused(f, a)
 }
 
@@ -129,8 +127,7 @@ pub fn close_correction_flat(f: Filter, m: usize, z: &[f64], r: &[f64]) -> Answe
     if refusal.number != 0 {
         return Answer { filter: f, refusal };
     }
-    let images = kept::images(f.track.kept);
     let g = whole::at_stage(f, Stage::Correcting);
-    let a = g.close_correction_flat(m, z, r, &images);
+    let a = g.close_correction_flat(m, z, r, &f.track.kept.images);
     whole::unless_refused(f, a)
 }

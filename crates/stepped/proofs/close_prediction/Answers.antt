@@ -13,4 +13,4 @@ returns-then-refusal-ne0 c =
 pub returns : goal.returns
 returns c =
     let t : Tested c.args.f close_prediction_stepped c.unready-refusal.result = record { mine = c.is_predicting_stepped-own.result; names = true; is = c.unready-refusal.ensures; mine_is = c.is_predicting_stepped-own.ensures; names_is = refl } in
-    whole_closed binary64 t c.if-refusal-ne0.false c.at_stage-g.ensures c.images-images.ensures c.close_prediction-a.ensures c.unless_refused.ensures
+    whole_closed binary64 t c.if-refusal-ne0.false c.at_stage-g.ensures refl c.close_prediction-a.ensures c.unless_refused.ensures
