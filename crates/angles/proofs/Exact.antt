@@ -13,16 +13,14 @@ use lib.Ieee.{Float, nan, inf, fin, Format, low, below, level, neg, add, sub, re
 use lib.Ieee.Fits.{and_l, and_r, cond-fits, add-fits, sub-fits, rem-fits, eq→eqb}
 use lib.Ieee.Exact.{HasValue}
 use lib.Ieee.Scale.{finite}
-use Rattle.floats.specs.Refusal.{bad_lone, PARAM, Outcome, refused, accepted, refusal, or, unless}
+use Rattle.floats.specs.declared.Refusal.TheVariants.{Param as PARAM}
+use Rattle.floats.specs.Refusal.{bad_lone, Outcome, accepted, unless}
 use Rattle.floats.specs.Numbers.{plus_zero, all_finite}
-use Rattle.angles.specs.Wrap.{wrap_step, brought, half_turn, wrap_of, wrapped}
-use Rattle.angles.specs.Kinds.{turned, through_of, kind_of}
-use Rattle.angles.specs.declared.Residual.{Residual}
-use Rattle.angles.specs.declared.Residual.TheVariants.{Plain, Turn}
-use Rattle.angles.specs.declared.Kind.{Kind}
+use Rattle.angles.specs.Wrap.{wrap_step, brought, half_turn, wrap_of}
+use Rattle.angles.specs.Kinds.{Kind, Plain, Turn, through_of, kind_of}
 use Rattle.floats.specs.Units.{units_of, minus?, signed, scaled}
 use Rattle.angles.specs.Exact.{Wraps}
-use Rattle.floats.proofs.Refusals.{number_above, passed}
+use Rattle.floats.proofs.Refusals.{passed}
 use Rattle.floats.proofs.Units.{lt_units, le_units, neg_units, finite_value}
 use Rattle.floats.proofs.Grid.{Held, held, units_is, scaled_is}
 use Rattle.angles.proofs.Sizes.{over, sign_of, size_of, left_lt, wrap_value}
@@ -222,28 +220,21 @@ tested f d h w e =
     let both : T (finite d && (finite h && true)) = subst T (sym p.0) tt in
     (and_l (finite d) (finite h && true) both, and_l (finite h) true (and_r (finite d) (finite h && true) both), subst T (sym q.0) tt, taken_same q.1)
   where
-    taken_same : {x y : Float} → accepted x ≡ accepted y → x ≡ y
+    taken_same : {x y : Float} → ◌≡◌ {A = Outcome Float} (accepted x) (accepted y) → x ≡ y
     taken_same e = cc
 
-outcome_exact : (f : Format) (d h w : Float) → T (fits f d) → T (fits f h) → wrap_of f d h ≡ accepted w → Wraps f d h w
+-- The same of what the public wrap hands back: a value that is not refused is exact.
+pub wrap_exact : (f : Format) (d h w : Float) → T (fits f d) → T (fits f h) → wrap_of f d h ≡ accepted w → Wraps f d h w
 unfolding half_turn
-outcome_exact f d h w fd fh e =
+wrap_exact f d h w fd fh e =
     let k = tested f d h w e in
     subst (λ (x : Float). Wraps f d h x) k.3 (wraps f d h fd k.0 fh k.1 (and_l (lt plus_zero h) (finite (add f h h)) k.2) (and_r (lt plus_zero h) (finite (add f h h)) k.2))
 
--- The same of what the public wrap hands back: a value that is not refused is exact.
-pub wrap_exact : (f : Format) (d h : Float) → T (fits f d) → T (fits f h) → (wrapped (wrap_of f d h)).refusal.number ≡ 0 → Wraps f d h (wrapped (wrap_of f d h)).value
-wrap_exact f d h fd fh = go (wrap_of f d h) refl
-  where
-    go : (o : Outcome Float) → wrap_of f d h ≡ o → (refusal o).number ≡ 0 → Wraps f d h (or plus_zero o)
-    go (refused r) e z = absurd (omega (arith, number_above r))
-    go (accepted w) e z = outcome_exact f d h w fd fh e
-
 -- And of a finite difference passed through a turn that has passed its check.
-pub through_exact : (f : Format) (h d : Float) → T (fits f d) → T (finite d) → T (fits f h) → kind_of f (record { residual = Turn h }) ≡ accepted (record { residual = Turn h }) → Wraps f d h (through_of f (record { residual = Turn h }) d)
+pub through_exact : (f : Format) (h d : Float) → T (fits f d) → T (finite d) → T (fits f h) → kind_of f (Turn h) ≡ accepted (Turn h) → Wraps f d h (through_of f (Turn h) d)
 unfolding half_turn
 through_exact f h d fd nd fh e =
-    let turn : Kind = record { residual = Turn h } in
+    let turn : Kind = Turn h in
     let p = passed (finite h) bad_lone (unless (half_turn f h) PARAM (accepted turn)) turn e in
     let ok : T (half_turn f h) = subst T (sym (passed (half_turn f h) PARAM (accepted turn) turn p.1).0) tt in
     wraps f d h fd nd fh (subst T (sym p.0) tt) (and_l (lt plus_zero h) (finite (add f h h)) ok) (and_r (lt plus_zero h) (finite (add f h h)) ok)
@@ -263,8 +254,5 @@ not_finite f (fin s m e) h t = absurd (true≢false t)
 
 -- so does one passed through a kind
 pub through_not_finite : (f : Format) (k : Kind) (d : Float) → finite d ≡ false → finite (through_of f k d) ≡ false
-through_not_finite f k d t = go k.residual
-  where
-    go : (r : Residual) → finite (turned f r d) ≡ false
-    go Plain = t
-    go (Turn h) = ap finite (not_finite f d h t)
+through_not_finite f Plain d t = t
+through_not_finite f (Turn h) d t = ap finite (not_finite f d h t)

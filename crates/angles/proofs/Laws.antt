@@ -9,7 +9,9 @@ use lib.Ieee.{Float, Format, neg, add, lt, fits}
 use lib.Ieee.Fits.{add-fits}
 use lib.Ieee.Bits.{is_true}
 use lib.Ieee.Scale.{finite}
-use Rattle.floats.specs.Refusal.{bad_lone, PARAM, Refusal, Outcome, refused, accepted, or, unless, onward}
+use Rattle.floats.specs.declared.Refusal.{Refusal}
+use Rattle.floats.specs.declared.Refusal.TheVariants.{Param as PARAM}
+use Rattle.floats.specs.Refusal.{bad_lone, Outcome, refused, accepted, or, unless, onward}
 use Rattle.floats.specs.Numbers.{plus_zero, all_finite}
 use Rattle.floats.specs.Powers.{times}
 use Rattle.floats.proofs.Finite.{neg_finite, twice_was_finite}
@@ -41,7 +43,7 @@ pub no_number : (f : Format) (d h : Float) → finite d ≡ false → wrap_of f 
 unfolding wrap_of all_finite
 no_number f d h e = rw e
 
--- the wrap of +0, which a refused wrap hands back, is +0, unless h alone is refused
+-- the wrap of +0 is +0, unless h alone is refused
 pub zero_wraps : (f : Format) (h : Float) → T (fits f h) → wrap_of f plus_zero h ≡ unless (finite h) bad_lone (unless (half_turn f h) PARAM (accepted plus_zero))
 unfolding wrap_of all_finite fits
 zero_wraps f h fh = go (finite h) (half_turn f h) stays
@@ -57,7 +59,7 @@ zero_wraps f h fh = go (finite h) (half_turn f h) stays
     go false b k = refl
 
 module _ (f : Format) (d h : Float) (fd : T (fits f d)) (fh : T (fits f h)) where
-  -- of a finite d the wrap of what its wrap hands back is the same outcome
+  -- of a finite d the wrap of what its wrap gives, or of +0 where that is refused, is the same outcome
   pub again : T (finite d) → wrap_of f (or plus_zero (wrap_of f d h)) h ≡ wrap_of f d h
   again nd = go (wrap_of f d h) refl
     where

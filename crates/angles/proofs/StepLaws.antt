@@ -20,9 +20,7 @@ use Rattle.floats.proofs.Units.{same_bool, scale_mod, neg_units, finite_value}
 use Rattle.floats.proofs.Grid.{held_as, held_neg, same_value, one_value}
 use Rattle.floats.proofs.Powers.{times_units, times_finite, times_fits}
 use Rattle.angles.specs.Wrap.{wrap_step, half_turn}
-use Rattle.angles.specs.Kinds.{turned, half, turn_times, passes}
-use Rattle.angles.specs.declared.Residual.{Residual}
-use Rattle.angles.specs.declared.Residual.TheVariants.{Plain, Turn}
+use Rattle.angles.specs.Kinds.{Kind, Plain, Turn, through_of, half_of, turn_times, passes}
 use Rattle.angles.proofs.Sizes.{over, sign_of, size_of, wrap_sign, wrap_size, left_lt, wrap_value}
 use Rattle.angles.proofs.Exact.{Bounded, bounded, Sizes, sizes, wrap_fits, not_finite}
 
@@ -209,7 +207,7 @@ module _ (f : Format) (d h : Float) (fd : T (fits f d)) (fh : T (fits f h)) (tur
       (λ e. not_finite f (times (pos n) d) (times (pos n) h) (times_finite (pos n) d ∙ e) ∙ ap (times (pos n)) (sym (not_finite f d h e)))
 
 -- so through a kind that has passed its check: a difference and a half-turn in another unit give the difference in that unit
-pub through_times : (f : Format) (r : Residual) (d : Float) (n : ℕ) → T (fits f d) → T (fits f (half r)) → T (passes f r) → T (fits f (times (pos n) d)) → T (fits f (half (turn_times (pos n) r))) → T (passes f (turn_times (pos n) r))
-    → turned f (turn_times (pos n) r) (times (pos n) d) ≡ times (pos n) (turned f r d)
+pub through_times : (f : Format) (k : Kind) (d : Float) (n : ℕ) → T (fits f d) → T (fits f (half_of k)) → T (passes f k) → T (fits f (times (pos n) d)) → T (fits f (half_of (turn_times (pos n) k))) → T (passes f (turn_times (pos n) k))
+    → through_of f (turn_times (pos n) k) (times (pos n) d) ≡ times (pos n) (through_of f k d)
 through_times f Plain d n fd fh t fd' fh' t' = refl
 through_times f (Turn h) d n fd fh t fd' fh' t' = step_times f d h fd fh t n fd' fh' t'

@@ -3,9 +3,9 @@ use Rattle.std.specs.Prelude.{Bool, ◌&&◌, cond, [], ◌∷◌, Float}
 use Rattle.std.specs.Float.{Format}
 use Rattle.std.specs.Float.Ieee.{neg, add, sub, rem, lt, le}
 use Rattle.std.specs.Float.Ieee.Scale.{finite}
-use Rattle.floats.specs.Refusal.{bad_lone, PARAM, Outcome, accepted, refusal, or, unless}
+use Rattle.floats.specs.declared.Refusal.TheVariants.{Param as PARAM}
+use Rattle.floats.specs.Refusal.{bad_lone, Outcome, accepted, unless}
 use Rattle.floats.specs.Numbers.{plus_zero, all_finite}
-use Rattle.angles.specs.declared.Wrapped.{Wrapped}
 
 module _ (f : Format) where
   -- with p = 2h and the remainder r: if r > h, r − 2h; else if r ≤ −h, r + 2h; else r
@@ -25,7 +25,3 @@ module _ (f : Format) where
   unfoldable pub wrap_of : Float → Float → Outcome Float
   unfolding wrap_step half_turn
   wrap_of d h = unless (all_finite (d ∷ h ∷ [])) bad_lone (unless (half_turn h) PARAM (accepted (wrap_step d h)))
-
--- the number with its place, and the value; refused, it gives +0
-abbrev pub wrapped : Outcome Float → Wrapped
-wrapped o = record { refusal = refusal o; value = or plus_zero o }

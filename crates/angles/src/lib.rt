@@ -1,24 +1,26 @@
 // The exact wrap of a difference of headings into (-h, h], and the residual kinds that use it.
 #![tactic(auto)]
 
-ghost use Rattle.std.specs.Prelude.{◌≡◌, true, false};
-ghost use Rattle.std.specs.Float.{binary64};
+ghost use Rattle.std.specs.Prelude.{◌≡◌, true, false, Result};
 ghost use Rattle.std.specs.Float.Ieee.{lt, rem};
 ghost use Rattle.std.specs.Float.Ieee.Scale.{finite};
+ghost use Rattle.floats.specs.declared.Refusal.{Refusal};
 ghost use Rattle.floats.specs.Numbers.{plus_zero};
-ghost use Rattle.floats.specs.Refusal.{refusal};
-ghost use Rattle.angles.specs.Wrap.{wrap_step, half_turn, wrap_of, wrapped};
+ghost use Rattle.angles.specs.declared.Kind.{Kind};
+ghost use Rattle.angles.specs.Wrap.{wrap_step, half_turn, wrap_of};
 ghost use Rattle.angles.specs.Kinds.{through_of, half_of, passes, kind_of};
 
-use floats::Verdict;
+use floats::{Number, Refusal, Slice};
 
 // The remainder of r by t, both finite and above 0: that by twice t, less t where it isn't below t. No r of the format reaches a twice that is beyond the format, so that then t is taken off once.
 // Nothing is rounded: what is taken off is at least half of what it is taken from.
-fn rest(r: f64, t: f64) -> f64
-    requires size { (finite r ≡ true) × (lt plus_zero r ≡ true) }
-    requires divisor { (finite t ≡ true) × (lt plus_zero t ≡ true) }
-    ensures { result ≡ rem binary64 r t }
+fn rest<T: Number>(r: T, t: T) -> T
+    requires size { (finite (T.float r) ≡ true) × (lt plus_zero (T.float r) ≡ true) }
+    requires divisor { (finite (T.float t) ≡ true) × (lt plus_zero (T.float t) ≡ true) }
+    ensures { T.float result ≡ rem T.format (T.float r) (T.float t) }
 {
+    r.held();
+    t.held();
     if r < t {
         return r;
     }
@@ -34,149 +36,128 @@ fn rest(r: f64, t: f64) -> f64
 }
 
 // The remainder of d by a p that is not below 0; it has the sign of d. NaN where d isn't finite or p is a zero or NaN.
-fn remainder_by(d: f64, p: f64) -> f64
-    requires { lt p plus_zero ≡ false }
-    ensures { result ≡ rem binary64 d p }
+fn remainder_by<T: Number>(d: T, p: T) -> T
+    requires { lt (T.float p) plus_zero ≡ false }
+    ensures { T.float result ≡ rem T.format (T.float d) (T.float p) }
 {
-    let none = 0.0 / 0.0;
+    d.held();
+    p.held();
+    let none = T::ZERO / T::ZERO;
     if !floats::is_finite(d) {
         return none;
     }
-    if !(0.0 < p) {
+    if !(T::ZERO < p) {
         return none;
     }
     if !floats::is_finite(p) {
         return d;
     }
-    if d < 0.0 {
+    if d < T::ZERO {
         return -rest(-d, p);
     }
-    if 0.0 < d {
+    if T::ZERO < d {
         return rest(d, p);
     }
     d
 }
 
 // d % p, as IEEE 754's language bindings have it: d less a whole number of p's, with the sign of d and below p in size. The C library is not asked.
-fn remainder(d: f64, p: f64) -> f64
-    ensures { result ≡ rem binary64 d p }
+fn remainder<T: Number>(d: T, p: T) -> T
+    ensures { T.float result ≡ rem T.format (T.float d) (T.float p) }
 {
-    if p < 0.0 {
+    p.held();
+    if p < T::ZERO {
         return remainder_by(d, -p);
     }
     remainder_by(d, p)
 }
 
 // The wrap's lines for any bits, as a step uses them: a d that isn't finite comes out not finite. It judges nothing: an h that 6 would refuse gives what the lines give.
-fn wrap_step(d: f64, h: f64) -> f64
-    ensures { result ≡ wrap_step binary64 d h }
+fn wrap_step<T: Number>(d: T, h: T) -> T
+    ensures { T.float result ≡ wrap_step T.format (T.float d) (T.float h) }
 {
     let p = h + h;
     let r = remainder(d, p);
-    if r > h {
+    let over = h < r;
+    if over {
         return r - p;
     }
-    if r <= -h {
+    let under = r <= -h;
+    if under {
         return r + p;
     }
     r
 }
 
 // What 6 asks of a half-turn: h above 0 and 2h finite.
-fn is_half_turn(h: f64) -> bool
-    ensures { result ≡ half_turn binary64 h }
+fn is_half_turn<T: Number>(h: T) -> bool
+    ensures { result ≡ half_turn T.format (T.float h) }
 {
-    if h > 0.0 {
-        return floats::is_finite(h + h);
-    }
-    false
-}
-
-// What a wrap answers: number and place, and the wrapped value, +0 where it is refused.
-#[derive(Clone, Copy)]
-pub struct Wrapped {
-    pub refusal: Verdict,
-    pub value: f64,
+    T::ZERO < h && floats::is_finite(h + h)
 }
 
 // The wrap for any caller: 56 where d or h isn't finite, else 6 where h isn't above 0 or 2h isn't finite; at place 0.
-pub fn wrap(d: f64, h: f64) -> Wrapped
-    ensures { result ≡ wrapped (wrap_of binary64 d h) }
+pub fn wrap<T: Number>(d: T, h: T) -> Result<T, Refusal>
+    ensures { T.seen (λ A. Result A Refusal) result ≡ wrap_of T.format (T.float d) (T.float h) }
 {
-    let given = [d, h];
-    if !floats::all_finite(&given, 2) {
-        return Wrapped {
-            refusal: floats::placeless(56),
-            value: 0.0,
-        };
+    let numbers = floats::is_finite(d) && floats::is_finite(h);
+    if !numbers {
+        return Err(Refusal::Number(Slice::Lone, 0));
     }
     if !is_half_turn(h) {
-        return Wrapped {
-            refusal: floats::placeless(6),
-            value: 0.0,
-        };
+        return Err(Refusal::Param);
     }
-    Wrapped {
-        refusal: floats::placeless(0),
-        value: wrap_step(d, h),
-    }
+    Ok(wrap_step(d, h))
 }
 
 // How a difference is taken: as it is, or wrapped at a half-turn.
-#[derive(Clone, Copy)]
-pub enum Residual {
+#[derive(Clone, Copy, Debug, PartialEq)]
+pub enum Kind<T> {
     Plain,
-    Turn(f64),
+    Turn(T),
 }
 
-// A residual held in a struct, so that an array of them can stand in a filter.
-#[derive(Clone, Copy)]
-pub struct Kind {
-    pub residual: Residual,
+impl<T: Number> Kind<T> {
+    // A difference passed through the kind, whether or not the kind would pass its check.
+    pub fn through(self, d: T) -> T
+        ensures { T.float result ≡ through_of T.format (T.seen Kind self) (T.float d) }
+    {
+        match self {
+            Kind::Plain => d,
+            Kind::Turn(h) => wrap_step(d, h),
+        }
+    }
+
+    // The number that the kind brings in: its half-turn, and of a plain one +0.
+    pub fn half(self) -> T
+        ensures { T.float result ≡ half_of (T.seen Kind self) }
+    {
+        match self {
+            Kind::Plain => T::ZERO,
+            Kind::Turn(h) => h,
+        }
+    }
+
+    // What 6 asks of the kind: a turn's h above 0 and 2h finite.
+    pub fn passes(self) -> bool
+        ensures { result ≡ passes T.format (T.seen Kind self) }
+    {
+        match self {
+            Kind::Plain => true,
+            Kind::Turn(h) => is_half_turn(h),
+        }
+    }
 }
 
-// A difference passed through a kind, whether or not the kind would pass its check.
-pub fn through_kind(k: Kind, d: f64) -> f64
-    ensures { result ≡ through_of binary64 k d }
+// The check of a kind: 56 where its half-turn isn't finite, else 6 where it isn't above 0 or twice it isn't finite; at place 0.
+pub fn kind_refusal<T: Number>(k: Kind<T>) -> Result<Kind<T>, Refusal>
+    ensures { T.seen (λ A. Result (Kind A) Refusal) result ≡ kind_of T.format (T.seen Kind k) }
 {
-    let residual = k.residual;
-    match residual {
-        Residual::Plain => d,
-        Residual::Turn(h) => wrap_step(d, h),
+    if !floats::is_finite(k.half()) {
+        return Err(Refusal::Number(Slice::Lone, 0));
     }
-}
-
-// The number that a kind brings in: its half-turn, and of a plain one +0.
-pub fn half_of(k: Kind) -> f64
-    ensures { result ≡ half_of k }
-{
-    let residual = k.residual;
-    match residual {
-        Residual::Plain => 0.0,
-        Residual::Turn(h) => h,
+    if !k.passes() {
+        return Err(Refusal::Param);
     }
-}
-
-// What 6 asks of a kind: a turn's h above 0 and 2h finite.
-pub fn kind_passes(k: Kind) -> bool
-    ensures { result ≡ passes binary64 k.residual }
-{
-    let residual = k.residual;
-    match residual {
-        Residual::Plain => true,
-        Residual::Turn(h) => is_half_turn(h),
-    }
-}
-
-// The check of a kind: 56 where its half-turn isn't finite, else 6 where it isn't above 0 or twice it isn't finite, else 0; at place 0.
-pub fn kind_refusal(k: Kind) -> Verdict
-    ensures { result ≡ refusal (kind_of binary64 k) }
-{
-    if !floats::is_finite(half_of(k)) {
-        return floats::placeless(56);
-    }
-    if !kind_passes(k) {
-        return floats::placeless(6);
-    }
-    floats::placeless(0)
+    Ok(k)
 }

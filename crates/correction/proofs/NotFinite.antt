@@ -7,7 +7,8 @@ use native.Mathlib.Omega.{arith}
 use lib.ListN.{get_or, take}
 use lib.Ieee.{Float, nan, Format, sub}
 use lib.Ieee.Scale.{finite}
-use Rattle.floats.specs.Refusal.{INNOV, RANGE, refused, accepted}
+use Rattle.floats.specs.declared.Refusal.TheVariants.{Innovation as INNOV, Range as RANGE}
+use Rattle.floats.specs.Refusal.{refused, accepted}
 use Rattle.floats.specs.Numbers.{all_finite}
 use Rattle.angles.specs.Kinds.{plain}
 use Rattle.angles.proofs.Exact.{through_not_finite}

@@ -1,8 +1,9 @@
 -- The steps of a close correction from z mean, S, x mean and cross covariance on, which the two closes make each in its own way; and how the weighted close makes them, `correct_with_weights_residuals`. Over a format f. Definitions only.
 use Rattle.std.specs.Prelude.{ℕ, ◌+◌, ◌*◌, List, Float}
 use Rattle.std.specs.Float.{Format}
-use Rattle.floats.specs.Refusal.{INNOV, Outcome}
-use Rattle.angles.specs.declared.Kind.{Kind}
+use Rattle.floats.specs.declared.Refusal.TheVariants.{Innovation as INNOV}
+use Rattle.floats.specs.Refusal.{Outcome}
+use Rattle.angles.specs.Kinds.{Kind}
 use Rattle.matrix.specs.Results.{listed, Plan, finish, after, run}
 use Rattle.matrix.specs.Sums.{plus_of, minus_of}
 use Rattle.matrix.specs.Factor.{factor_of}

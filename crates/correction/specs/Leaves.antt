@@ -4,7 +4,7 @@ use Rattle.std.specs.Float.{nan, Format}
 use Rattle.std.specs.Float.Ieee.{add, sub}
 use Rattle.floats.specs.Numbers.{zeros}
 use Rattle.angles.specs.Kinds.{through_of, plain}
-use Rattle.angles.specs.declared.Kind.{Kind}
+use Rattle.angles.specs.Kinds.{Kind}
 use Rattle.matrix.specs.Folds.{places_of}
 use Rattle.matrix.specs.Sums.{dot_of}
 

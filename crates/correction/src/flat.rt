@@ -1,118 +1,105 @@
 // The flat-average correction, after the crate's `correct_nonlinear`: means, S and the cross covariance are plain sums over all points, each divided by their number, with no kinds and no weights.
-ghost use Rattle.std.specs.Prelude.{◌≡◌, ◌+◌, ◌<◌, ◌≤◌};
-ghost use Rattle.std.specs.Float.{binary64};
+ghost use Rattle.std.specs.Prelude.{◌≡◌, ◌+◌, ◌<◌, ◌≤◌, Result};
+ghost use Rattle.floats.specs.declared.Refusal.{Refusal};
+ghost use Rattle.sigma.specs.declared.Moments.{Moments};
 ghost use Rattle.sigma.specs.Weights.{whole};
-ghost use Rattle.sigma.specs.Predict.{moments};
 ghost use Rattle.correction.specs.Flat.{flat_mean_at, flat_mean_of, flat_spread_at, flat_spread_of, flat_of};
 
-use angles::{Kind, Residual};
+use angles::Kind;
+use floats::{Number, Refusal};
 use matrix::{layout, sums};
+use root::Rooted;
 use sigma::{Moments, spread};
 
 // The number of points, 0 to t.
-fn count(t: usize) -> f64
+fn count<T: Number>(t: usize) -> T
     requires { t < 17 }
-    ensures { result ≡ whole binary64 (t + 1) }
+    ensures { T.float result ≡ whole T.format (t + 1) }
 {
-    (t + 1) as f64
+    T::whole(t + 1)
 }
 
 // From +0, the points' numbers i; the sum over their count.
-fn mean_at(p: &[f64; 136], d: usize, t: usize, i: usize) -> f64
+fn mean_at<T: Number>(p: &[T; 136], d: usize, t: usize, i: usize) -> T
     requires { (t < 17) × (d ≤ 8) × (i < d) }
-    ensures { result ≡ flat_mean_at binary64 p.now d t i }
+    ensures { T.float result ≡ flat_mean_at T.format (T.floats p.now) d t i }
 {
-    let mut s = 0.0;
-    let mut k = 0usize;
-    while k <= t {
-        let at = sigma::place(k, d, i);
-        s = s + p[at];
-        k += 1;
+    let mut s = T::ZERO;
+    for k in 0..t + 1 {
+        s = s + p[sigma::place(k, d, i)];
     }
     s / count(t)
 }
 
-fn flat_mean(p: &[f64; 136], d: usize, t: usize) -> [f64; 8]
+fn flat_mean<T: Number>(p: &[T; 136], d: usize, t: usize) -> [T; 8]
     requires { (t < 17) × (d ≤ 8) }
-    ensures { result ≡ flat_mean_of binary64 p.now d t }
+    ensures { T.floats result ≡ flat_mean_of T.format (T.floats p.now) d t }
 {
-    let mut mean = [0.0f64; 8];
-    let mut i = 0usize;
-    while i < d {
+    let mut mean = [T::ZERO; 8];
+    for i in 0..d {
         mean[i] = mean_at(p, d, t, i);
-        i += 1;
     }
     mean
 }
 
 // From +0, for each point, a's number i times b's number j; the sum over their count.
-fn spread_at(
-    a: &[f64; 136],
+fn spread_at<T: Number>(
+    a: &[T; 136],
     da: usize,
     i: usize,
-    b: &[f64; 136],
+    b: &[T; 136],
     db: usize,
     j: usize,
     t: usize,
-) -> f64
+) -> T
     requires { (t < 17) × ((da ≤ 8) × (i < da)) × ((db ≤ 8) × (j < db)) }
-    ensures { result ≡ flat_spread_at binary64 a.now da b.now db t i j }
+    ensures { T.float result ≡ flat_spread_at T.format (T.floats a.now) da (T.floats b.now) db t i j }
 {
-    let mut s = 0.0;
-    let mut k = 0usize;
-    while k <= t {
+    let mut s = T::ZERO;
+    for k in 0..t + 1 {
         let x = sigma::place(k, da, i);
         let y = sigma::place(k, db, j);
         s = s + a[x] * b[y];
-        k += 1;
     }
     s / count(t)
 }
 
 // One such for each i and j, nothing mirrored: da rows of db.
-fn flat_spread(a: &[f64; 136], da: usize, b: &[f64; 136], db: usize, t: usize) -> [f64; 64]
+fn flat_spread<T: Number>(a: &[T; 136], da: usize, b: &[T; 136], db: usize, t: usize) -> [T; 64]
     requires { (t < 17) × ((da ≤ 8) × (db ≤ 8)) }
-    ensures { result ≡ flat_spread_of binary64 a.now da b.now db t }
+    ensures { T.floats result ≡ flat_spread_of T.format (T.floats a.now) da (T.floats b.now) db t }
 {
-    let mut out = [0.0f64; 64];
-    let mut i = 0usize;
-    while i < da {
-        let mut j = 0usize;
-        while j < db {
-            let at = layout::cell(i, db, j);
-            out[at] = spread_at(a, da, i, b, db, j, t);
-            j += 1;
+    let mut out = [T::ZERO; 64];
+    for i in 0..da {
+        for j in 0..db {
+            out[layout::cell(i, db, j)] = spread_at(a, da, i, b, db, j, t);
         }
-        i += 1;
     }
     out
 }
 
 // The correction of n states by m measurements: flat means and flat spreads of plain differences.
-pub fn correct_nonlinear(
+pub fn correct_nonlinear<T: Rooted>(
     n: usize,
     m: usize,
-    x: &[f64; 8],
-    p: &[f64; 64],
-    points: &[f64; 136],
-    observed: &[f64; 136],
-    z: &[f64; 8],
-    r: &[f64; 64],
-) -> Moments
+    x: &[T; 8],
+    p: &[T; 64],
+    points: &[T; 136],
+    observed: &[T; 136],
+    z: &[T; 8],
+    r: &[T; 64],
+) -> Result<Moments<T>, Refusal>
     requires { (n ≤ 8) × (m ≤ 4) }
-    ensures { result ≡ moments (flat_of binary64 n m x.now p.now points.now observed.now z.now r.now) }
+    ensures { T.seen (λ A. Result (Moments A) Refusal) result ≡ flat_of T.format n m (T.floats x.now) (T.floats p.now) (T.floats points.now) (T.floats observed.now) (T.floats z.now) (T.floats r.now) }
 {
     let t = n + n;
-    let plain = Kind {
-        residual: Residual::Plain,
-    };
-    let kinds = [plain; 8];
+    let kinds = [Kind::Plain; 8];
     let zm = flat_mean(observed, m, t);
-    let dz = spread::deviations(observed, m, t, &zm, kinds);
+    let dz = spread::deviations(observed, m, t, &zm, &kinds);
     let sz = flat_spread(&dz, m, &dz, m, t);
-    let s = sums::plus(m * m, r, &sz);
     let xm = flat_mean(points, n, t);
-    let dx = spread::deviations(points, n, t, &xm, kinds);
+    let dx = spread::deviations(points, n, t, &xm, &kinds);
+    let s = sums::plus(m * m, r, &sz);
     let c = flat_spread(&dx, n, &dz, m, t);
-    crate::apply_correction(n, m, x, p, z, kinds, &zm, &s, &xm, &c)
+    crate::apply_correction(n, m, x, p, z, &kinds, &zm, &s, &xm, &c)
 }

@@ -6,14 +6,15 @@ use mathlib.Core.List.{List, []}
 use native.Mathlib.Omega.{arith}
 use lib.ListN.{take, drop}
 use lib.Ieee.{Float, Format}
-use Rattle.floats.specs.Refusal.{Refusal, Outcome, refused, accepted}
+use Rattle.floats.specs.declared.Refusal.{Refusal}
+use Rattle.floats.specs.Refusal.{Outcome, refused, accepted}
 use Rattle.floats.proofs.Refusals.{number_above}
-use Rattle.angles.specs.declared.Kind.{Kind}
+use Rattle.angles.specs.Kinds.{Kind}
 use Rattle.matrix.specs.Results.{Plan, finish, run, mapped}
 use Rattle.sigma.specs.Predict.{Moment}
 use Rattle.sigma.specs.Weights.{weights_of}
 use Rattle.correction.specs.Correct.{apply_plan}
-use Rattle.filter.specs.declared.Filter.{Filter}
+use Rattle.filter.specs.Types.{Filter}
 use Rattle.filter.specs.Filters.{is_predicting_stepped, is_correcting_stepped, is_stepped, seen, Writing, q_set, params_set, kinds_set, Setting, x_set, p_set, opened_prediction, opened_correction, opened_prediction_stepped, opened_correction_stepped, Change, writes, sets, keeps, changed, closed_with}
 use Rattle.filter.specs.Calls.{SheetCall, set_q, set_params, set_kind, SetCall, set_x, set_p, Call, writing, setting, stepping, ask, image_prediction, image_correction, closing, closing_stepped, open_prediction, open_correction, open_prediction_stepped, open_correction_stepped, close_prediction, close_correction, close_correction_flat, SteppedClose, close_prediction_stepped, close_correction_stepped, close_correction_flat_stepped, with_list, asks, Done, done, writing_of, asked_for, handed_in, opened, opened_stepped, closed, draws, close_plan, plan, weighted_from, flat_from}
 use Rattle.filter.specs.Steps.{Stepped, stepped, step}

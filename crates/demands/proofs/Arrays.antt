@@ -13,7 +13,7 @@ use Rattle.floats.specs.Fronts.{front}
 use Rattle.floats.proofs.Finite.{all_append, all_zeros}
 use Rattle.floats.proofs.Fronts.{length_front}
 use Rattle.angles.specs.Kinds.{half_of, plain}
-use Rattle.angles.specs.declared.Kind.{Kind}
+use Rattle.angles.specs.Kinds.{Kind}
 use Rattle.matrix.specs.Folds.{places_of}
 use Rattle.matrix.proofs.Cells.{length_zeros, zeros_at}
 use Rattle.sigma.proofs.Accepted.{InUse}

@@ -5,7 +5,8 @@ use mathlib.Core.List.{List, [], ◌∷◌, ◌++◌}
 use mathlib.Core.Logic.{inl, inr}
 use lib.ListN.{set}
 use lib.Ieee.{Float, Format, div}
-use Rattle.floats.specs.Refusal.{Refusal, RANGE, PIVOT, INNOV}
+use Rattle.floats.specs.declared.Refusal.{Refusal}
+use Rattle.floats.specs.declared.Refusal.TheVariants.{Range as RANGE, Pivot as PIVOT, Innovation as INNOV}
 use Rattle.root.specs.Definition.{root_of}
 use Rattle.matrix.specs.Results.{Result, refusal_of, results, product, planned}
 use Rattle.matrix.specs.Factor.{left_of, rows_from, column_of, columns_from, factor_of}

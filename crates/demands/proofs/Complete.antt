@@ -1,19 +1,46 @@
 -- Complete contracts: from two answers that one contract allows, their equality.
--- The contract is the function's own: `Kinds` is its signature and `Learnt` all that its `ensures` says, both as rattle reads them off the source. Nothing of it is typed again here. Assumes nothing.
+-- The contract is the function's own: `Kinds` is its signature and `Learnt` all that its `ensures` says, both as rattle reads them off the source. Nothing of it is typed again here. Of a function that is written once for every type with a bound, as `T: Number`, it is said at every such type, f64 and f32 among them. Assumes nothing.
 use Prim.Native.Nat.{ℕ}
 use mathlib.Core.Path.{◌≡◌, refl, sym, ap, ◌∙◌}
-use mathlib.Core.List.{List}
+use mathlib.Core.List.{List, []}
 use native.Mathlib.Omega.{arith}
-use lib.Ieee.{Float, nan, binary64}
+use lib.Ieee.{Float, nan, binary64, lt, add}
+use mir.Syntax.{Dict}
 use contract.Lifetimes.{Lfts}
+use denote.RattleType.{RattleType}
+use denote.Param.Laws.{Laws, IsCopy}
 use denote.Triple.Clauses.{Lasts, at_exit}
 use denote.Ref.{Bor}
 use borrow.Fn.Kinds.{ParamKind, ResultKind, Dens, Out, res_t, ended_of}
-use Rattle.floats.specs.Refusal.{refusal}
-use Rattle.floats.specs.Numbers.{plus_zero}
-use Rattle.root.proofs.Answers.{one_case}
-use Rattle.angles.specs.Wrap.{wrap_of}
-use Rattle.angles.specs.declared.Wrapped.{Wrapped}
+use Rattle.std.specs.declared.clone.Clone
+use Rattle.std.specs.declared.cmp.PartialEq
+use Rattle.std.specs.declared.cmp.PartialOrd
+use Rattle.std.specs.declared.ops.Add
+use Rattle.std.specs.declared.ops.Sub
+use Rattle.std.specs.declared.ops.Mul
+use Rattle.std.specs.declared.ops.Div
+use Rattle.std.specs.declared.ops.Neg
+use Rattle.std.specs.Prelude.{Option}
+use Rattle.demands.proofs.Instances.{Instance, f64, seen_one, float_one, floats_one}
+use Rattle.floats.specs.declared.number.Number
+use Rattle.floats.specs.Refusal.{Outcome, accepted, refusal, or}
+use Rattle.floats.specs.Numbers as Numbers
+use Rattle.floats.specs.Numbers.{plus_zero, one as one_number}
+use Rattle.root.specs.declared.Rooted
+use Rattle.angles.specs.declared.Kind.{Kind}
+use Rattle.angles.specs.Wrap
+use Rattle.sigma.specs.declared.weights.Weighting.{Weighting}
+use Rattle.sigma.specs.declared.Params.{Params}
+use Rattle.sigma.specs.declared.Moments.{Moments}
+use Rattle.filter.specs.declared.Sheet.{Sheet}
+use Rattle.filter.specs.declared.Track.{Track}
+use Rattle.filter.specs.declared.Answer.{Answer}
+use Rattle.filter.specs.declared.ParamsRead.{ParamsRead}
+use Rattle.filter.specs.declared.new.NewSheet.{NewSheet}
+use Rattle.filter.specs.declared.new.NewTrack.{NewTrack}
+use Rattle.filter.specs.declared.point.Spaced
+use Rattle.words.specs.declared.worded.Worded
+use Rattle.script.specs.declared.text.Read.{Read}
 use Rattle.floats.proofs.is_finite.Kinds as is_finite_of
 use Rattle.floats.proofs.is_finite.Reads as is_finite
 use Rattle.floats.proofs.is_above_zero.Kinds as is_above_zero_of
@@ -26,20 +53,24 @@ use Rattle.floats.proofs.earlier.Kinds as earlier_of
 use Rattle.floats.proofs.earlier.Reads as earlier
 use Rattle.floats.proofs.slice_number.Kinds as slice_number_of
 use Rattle.floats.proofs.slice_number.Reads as slice_number
+use Rattle.floats.proofs.number.Number.whole.Kinds as whole_of
+use Rattle.floats.proofs.number.Number.whole.Reads as whole
+use Rattle.floats.proofs.Refusal.verdict.Kinds as verdict_of
+use Rattle.floats.proofs.Refusal.verdict.Reads as verdict
 use Rattle.floats.proofs.first_bad.Kinds as first_bad_of
 use Rattle.floats.proofs.first_bad.Reads as first_bad
 use Rattle.floats.proofs.next_bad.Kinds as next_bad_of
 use Rattle.floats.proofs.next_bad.Reads as next_bad
 use Rattle.root.proofs.square_root.Kinds as square_root_of
 use Rattle.root.proofs.square_root.Reads as square_root
-use Rattle.angles.proofs.wrap.Kinds as wrap_of_lem
+use Rattle.angles.proofs.wrap.Kinds as wrap_of
 use Rattle.angles.proofs.wrap.Reads as wrap
-use Rattle.angles.proofs.through_kind.Kinds as through_kind_of
-use Rattle.angles.proofs.through_kind.Reads as through_kind
-use Rattle.angles.proofs.half_of.Kinds as half_of_of
-use Rattle.angles.proofs.half_of.Reads as half_of
-use Rattle.angles.proofs.kind_passes.Kinds as kind_passes_of
-use Rattle.angles.proofs.kind_passes.Reads as kind_passes
+use Rattle.angles.proofs.Kind.through.Kinds as through_of
+use Rattle.angles.proofs.Kind.through.Reads as through
+use Rattle.angles.proofs.Kind.half.Kinds as half_of
+use Rattle.angles.proofs.Kind.half.Reads as half
+use Rattle.angles.proofs.Kind.passes.Kinds as passes_of
+use Rattle.angles.proofs.Kind.passes.Reads as passes
 use Rattle.angles.proofs.kind_refusal.Kinds as kind_refusal_of
 use Rattle.angles.proofs.kind_refusal.Reads as kind_refusal
 use Rattle.matrix.proofs.layout.row.Kinds as row_of
@@ -82,8 +113,6 @@ use Rattle.sigma.proofs.spread.deviations.Kinds as deviations_of
 use Rattle.sigma.proofs.spread.deviations.Reads as deviations
 use Rattle.sigma.proofs.spread.spread.Kinds as spread_of
 use Rattle.sigma.proofs.spread.spread.Reads as spread
-use Rattle.sigma.proofs.predict.refuse.Kinds as refuse_of
-use Rattle.sigma.proofs.predict.refuse.Reads as refuse
 use Rattle.sigma.proofs.predict.reconstruct_prediction.Kinds as reconstruct_prediction_of
 use Rattle.sigma.proofs.predict.reconstruct_prediction.Reads as reconstruct_prediction
 use Rattle.correction.proofs.correct_with_weights_residuals.Kinds as correct_with_weights_residuals_of
@@ -104,8 +133,8 @@ use Rattle.filter.proofs.checks.in_range.Kinds as in_range_of
 use Rattle.filter.proofs.checks.in_range.Reads as in_range
 use Rattle.filter.proofs.checks.is_sized.Kinds as is_sized_of
 use Rattle.filter.proofs.checks.is_sized.Reads as is_sized
-use Rattle.filter.proofs.checks.both.Kinds as both_of
-use Rattle.filter.proofs.checks.both.Reads as both
+use Rattle.filter.proofs.checks.is_state.Kinds as is_state_of
+use Rattle.filter.proofs.checks.is_state.Reads as is_state
 use Rattle.filter.proofs.checks.square.Kinds as square_of
 use Rattle.filter.proofs.checks.square.Reads as square
 use Rattle.filter.proofs.checks.point_numbers.Kinds as point_numbers_of
@@ -118,6 +147,8 @@ use Rattle.filter.proofs.Track.new.Kinds as new_track_of
 use Rattle.filter.proofs.Track.new.Reads as new_track
 use Rattle.filter.proofs.new.empty_sheet.Kinds as empty_sheet_of
 use Rattle.filter.proofs.new.empty_sheet.Reads as empty_sheet
+use Rattle.filter.proofs.new.empty_params.Kinds as empty_params_of
+use Rattle.filter.proofs.new.empty_params.Reads as empty_params
 use Rattle.filter.proofs.new.empty_track.Kinds as empty_track_of
 use Rattle.filter.proofs.new.empty_track.Reads as empty_track
 use Rattle.filter.proofs.new.refused.Kinds as refused_of
@@ -164,6 +195,8 @@ use Rattle.filter.proofs.Filter.read_points.Kinds as read_points_of
 use Rattle.filter.proofs.Filter.read_points.Reads as read_points
 use Rattle.filter.proofs.point.point_refusal.Kinds as point_refusal_of
 use Rattle.filter.proofs.point.point_refusal.Reads as point_refusal
+use Rattle.filter.proofs.point.Spaced.part.Kinds as part_of
+use Rattle.filter.proofs.point.Spaced.part.Reads as part
 use Rattle.filter.proofs.point.point.Kinds as point_of
 use Rattle.filter.proofs.point.point.Reads as point
 use Rattle.stepped.proofs.open_prediction.Kinds as stepped_open_prediction_of
@@ -245,24 +278,72 @@ module _ {n : ℕ} (ps : List (ParamKind n)) (r : ResultKind n) (Says : Out n ps
       (κs : Lfts n) (a : Dens κs ps) (z z' : (res_t r κs).Denot) (w w' : Lasts (ended_of n ps r) κs a)
       → Allows κs a z w → Allows κs a z' w' → ((part κs z).ref_ptr ≡ (part κs z').ref_ptr) × ((part κs z).now ≡ (part κs z').now) × (w ≡ w')
 
+-- a function that is generic over `T: Number`: its signature and its contract at a type with that bound
+module _ {n : ℕ} (ps : (R : RattleType) → Laws R → IsCopy R → List (ParamKind n)) (r : (R : RattleType) → Laws R → IsCopy R → ResultKind n) where
+  -- what rattle reads off the source takes the type, what is known of it, and each trait's members and dictionary
+  abbrev pub OfNumber : Type 2
+  OfNumber =
+      (R : RattleType) (L : Laws R) (C : IsCopy R)
+      → Number.Ghosts R.Denot → Dict → Clone.Ghosts R.Denot → Dict → PartialOrd.Ghosts R.Denot → Dict → PartialEq.Ghosts R.Denot → Dict
+      → Add.Ghosts R.Denot R.Denot R.Denot → Dict → Sub.Ghosts R.Denot R.Denot R.Denot → Dict → Mul.Ghosts R.Denot R.Denot R.Denot → Dict
+      → Div.Ghosts R.Denot R.Denot R.Denot → Dict → Neg.Ghosts R.Denot R.Denot → Dict → Out n (ps R L C) (r R L C)
+
+  module _ (says : OfNumber) where
+    abbrev pub At : (T : Instance) → Out n (ps T.row T.laws T.copies) (r T.row T.laws T.copies)
+    At T = says T.row T.laws T.copies T.number T.number_at T.clone T.clone_at T.ord T.ord_at T.eq T.eq_at T.add T.add_at T.sub T.sub_at T.mul T.mul_at T.div T.div_at T.neg T.neg_at
+
+    -- whatever the type, its contract allows one answer
+    abbrev pub OneAnswerOf : Type 2
+    OneAnswerOf = (T : Instance) → OneAnswer (ps T.row T.laws T.copies) (r T.row T.laws T.copies) (At T)
+
+-- the same of one whose bound is a trait above Number, as `T: Rooted`, which has members of its own, More; and where the value is a part of a lent slice
+module _ (More : Type 0 → Type 1) {n : ℕ} (ps : (R : RattleType) → Laws R → IsCopy R → List (ParamKind n)) (r : (R : RattleType) → Laws R → IsCopy R → ResultKind n) where
+  abbrev pub OfMore : Type 2
+  OfMore =
+      (R : RattleType) (L : Laws R) (C : IsCopy R) → More R.Denot → Dict
+      → Number.Ghosts R.Denot → Dict → Clone.Ghosts R.Denot → Dict → PartialOrd.Ghosts R.Denot → Dict → PartialEq.Ghosts R.Denot → Dict
+      → Add.Ghosts R.Denot R.Denot R.Denot → Dict → Sub.Ghosts R.Denot R.Denot R.Denot → Dict → Mul.Ghosts R.Denot R.Denot R.Denot → Dict
+      → Div.Ghosts R.Denot R.Denot R.Denot → Dict → Neg.Ghosts R.Denot R.Denot → Dict → Out n (ps R L C) (r R L C)
+
+  module _ (says : OfMore) where
+    abbrev pub AtMore : (T : Instance) → More T.row.Denot → Dict → Out n (ps T.row T.laws T.copies) (r T.row T.laws T.copies)
+    AtMore T more more_at = says T.row T.laws T.copies more more_at T.number T.number_at T.clone T.clone_at T.ord T.ord_at T.eq T.eq_at T.add T.add_at T.sub T.sub_at T.mul T.mul_at T.div T.div_at T.neg T.neg_at
+
+    abbrev pub OneAnswerMore : Type 2
+    OneAnswerMore = (T : Instance) (more : More T.row.Denot) (more_at : Dict) → OneAnswer (ps T.row T.laws T.copies) (r T.row T.laws T.copies) (AtMore T more more_at)
+
+    abbrev pub OnePartMore : ((R : RattleType) (L : Laws R) (C : IsCopy R) (κs : Lfts n) → (res_t (r R L C) κs).Denot → Bor (List R.Denot)) → Type 2
+    OnePartMore part = (T : Instance) (more : More T.row.Denot) (more_at : Dict) → OnePart (ps T.row T.laws T.copies) (r T.row T.laws T.copies) (AtMore T more more_at) (part T.row T.laws T.copies)
+
 -- p and q: each of two is what the definition says
 pub by : {A : Type 0} {x y d : A} → x ≡ d → y ≡ d → x ≡ y
 by p q = p ∙ sym q
 
+-- the same of what each of two is seen as: of whatever is made of values, of a value and of a list
+module _ (T : Instance) where
+  pub by_seen : (F : Type 0 → Type 0) {x y : F T.row.Denot} {d : F Float} → T.number.seen F x ≡ d → T.number.seen F y ≡ d → x ≡ y
+  by_seen F p q = seen_one T F (by p q)
+
+  pub by_float : {x y : T.row.Denot} {d : Float} → T.number.float x ≡ d → T.number.float y ≡ d → x ≡ y
+  by_float p q = float_one T (by p q)
+
+  pub by_floats : {x y : List T.row.Denot} {d : List Float} → T.number.floats x ≡ d → T.number.floats y ≡ d → x ≡ y
+  by_floats p q = floats_one T (by p q)
+
 -- the one lent buffer, after self
-pub lent : {l m : List Float} → l ≡ m → ◌≡◌ {A = Unit {0} × (List Float × Unit {0})} (tt, (l, tt)) (tt, (m, tt))
-lent e = ap (λ (l : List Float). (tt, (l, tt))) e
+pub lent : {A : Type 0} {l m : List A} → l ≡ m → ◌≡◌ {A = Unit {0} × (List A × Unit {0})} (tt, (l, tt)) (tt, (m, tt))
+lent {A} e = ap (λ (l : List A). (tt, (l, tt))) e
 
 -- ---- THE TABLE: a line for each public function
 
-pub is_finite_one : OneAnswer is_finite_of.ps is_finite_of.r is_finite.Learnt
-is_finite_one κs a z z' w w' p q = (by p q, refl)
+pub is_finite_one : OneAnswerOf is_finite_of.ps is_finite_of.r is_finite.Learnt
+is_finite_one T κs a z z' w w' p q = (by p q, refl)
 
-pub is_above_zero_one : OneAnswer is_above_zero_of.ps is_above_zero_of.r is_above_zero.Learnt
-is_above_zero_one κs a z z' w w' p q = (by p q, refl)
+pub is_above_zero_one : OneAnswerOf is_above_zero_of.ps is_above_zero_of.r is_above_zero.Learnt
+is_above_zero_one T κs a z z' w w' p q = (by p q, refl)
 
-pub all_finite_one : OneAnswer all_finite_of.ps all_finite_of.r all_finite.Learnt
-all_finite_one κs a z z' w w' p q = (by p q, refl)
+pub all_finite_one : OneAnswerOf all_finite_of.ps all_finite_of.r all_finite.Learnt
+all_finite_one T κs a z z' w w' p q = (by p q, refl)
 
 pub placeless_one : OneAnswer placeless_of.ps placeless_of.r placeless.Learnt
 placeless_one κs a z z' w w' p q = (by p q, refl)
@@ -273,29 +354,35 @@ earlier_one κs a z z' w w' p q = (by p q, refl)
 pub slice_number_one : OneAnswer slice_number_of.ps slice_number_of.r slice_number.Learnt
 slice_number_one κs a z z' w w' p q = (by p q, refl)
 
-pub first_bad_one : OneAnswer first_bad_of.ps first_bad_of.r first_bad.Learnt
-first_bad_one κs a z z' w w' p q = (by p q, refl)
+pub verdict_one : OneAnswer verdict_of.ps verdict_of.r verdict.Learnt
+verdict_one κs a z z' w w' p q = (by p q, refl)
 
-pub next_bad_one : OneAnswer next_bad_of.ps next_bad_of.r next_bad.Learnt
-next_bad_one κs a z z' w w' p q = (by p q, refl)
+pub whole_one : OneAnswerOf whole_of.ps whole_of.r whole.Learnt
+whole_one T κs a z z' w w' p q = (by_float T p q, refl)
 
-pub square_root_one : OneAnswer square_root_of.ps square_root_of.r square_root.Learnt
-square_root_one κs a z z' w w' p q = (one_case z z' (by p q), refl)
+pub first_bad_one : OneAnswerOf first_bad_of.ps first_bad_of.r first_bad.Learnt
+first_bad_one T κs a z z' w w' p q = (by p q, refl)
 
-pub wrap_one : OneAnswer wrap_of_lem.ps wrap_of_lem.r wrap.Learnt
-wrap_one κs a z z' w w' p q = (by p q, refl)
+pub next_bad_one : OneAnswerOf next_bad_of.ps next_bad_of.r next_bad.Learnt
+next_bad_one T κs a z z' w w' p q = (by p q, refl)
 
-pub through_kind_one : OneAnswer through_kind_of.ps through_kind_of.r through_kind.Learnt
-through_kind_one κs a z z' w w' p q = (by p q, refl)
+pub square_root_one : OneAnswerMore Rooted.Ghosts square_root_of.ps square_root_of.r square_root.Learnt
+square_root_one T R d κs a z z' w w' p q = (by_seen T Outcome p q, refl)
 
-pub half_of_one : OneAnswer half_of_of.ps half_of_of.r half_of.Learnt
-half_of_one κs a z z' w w' p q = (by p q, refl)
+pub wrap_one : OneAnswerOf wrap_of.ps wrap_of.r wrap.Learnt
+wrap_one T κs a z z' w w' p q = (by_seen T Outcome p q, refl)
 
-pub kind_passes_one : OneAnswer kind_passes_of.ps kind_passes_of.r kind_passes.Learnt
-kind_passes_one κs a z z' w w' p q = (by p q, refl)
+pub through_one : OneAnswerOf through_of.ps through_of.r through.Learnt
+through_one T κs a z z' w w' p q = (by_float T p q, refl)
 
-pub kind_refusal_one : OneAnswer kind_refusal_of.ps kind_refusal_of.r kind_refusal.Learnt
-kind_refusal_one κs a z z' w w' p q = (by p q, refl)
+pub half_one : OneAnswerOf half_of.ps half_of.r half.Learnt
+half_one T κs a z z' w w' p q = (by_float T p q, refl)
+
+pub passes_one : OneAnswerOf passes_of.ps passes_of.r passes.Learnt
+passes_one T κs a z z' w w' p q = (by p q, refl)
+
+pub kind_refusal_one : OneAnswerOf kind_refusal_of.ps kind_refusal_of.r kind_refusal.Learnt
+kind_refusal_one T κs a z z' w w' p q = (by_seen T (λ A. Outcome (Kind A)) p q, refl)
 
 pub row_one : OneAnswer row_of.ps row_of.r row.Learnt
 row_one κs a z z' w w' p q = (by p.0 q.0, refl)
@@ -303,71 +390,68 @@ row_one κs a z z' w w' p q = (by p.0 q.0, refl)
 pub cell_one : OneAnswer cell_of.ps cell_of.r cell.Learnt
 cell_one κs a z z' w w' p q = (by p.0 q.0, refl)
 
-pub dot_one : OneAnswer dot_of.ps dot_of.r dot.Learnt
-dot_one κs a z z' w w' p q = (by p q, refl)
+pub dot_one : OneAnswerOf dot_of.ps dot_of.r dot.Learnt
+dot_one T κs a z z' w w' p q = (by_float T p q, refl)
 
-pub less_one : OneAnswer less_of.ps less_of.r less.Learnt
-less_one κs a z z' w w' p q = (by p q, refl)
+pub less_one : OneAnswerOf less_of.ps less_of.r less.Learnt
+less_one T κs a z z' w w' p q = (by_float T p q, refl)
 
-pub plus_one : OneAnswer plus_of.ps plus_of.r plus.Learnt
-plus_one κs a z z' w w' p q = (by p q, refl)
+pub plus_one : OneAnswerOf plus_of.ps plus_of.r plus.Learnt
+plus_one T κs a z z' w w' p q = (by_floats T p q, refl)
 
-pub minus_one : OneAnswer minus_of.ps minus_of.r minus.Learnt
-minus_one κs a z z' w w' p q = (by p q, refl)
+pub minus_one : OneAnswerOf minus_of.ps minus_of.r minus.Learnt
+minus_one T κs a z z' w w' p q = (by_floats T p q, refl)
 
 pub refused_by_one : OneAnswer refused_by_of.ps refused_by_of.r refused_by.Learnt
 refused_by_one κs a z z' w w' p q = (by p q, refl)
 
-pub cholesky_decompose_lower_one : OneAnswer cholesky_decompose_lower_of.ps cholesky_decompose_lower_of.r cholesky_decompose_lower.Learnt
-cholesky_decompose_lower_one κs a z z' w w' p q = (by p q, refl)
+pub cholesky_decompose_lower_one : OneAnswerMore Rooted.Ghosts cholesky_decompose_lower_of.ps cholesky_decompose_lower_of.r cholesky_decompose_lower.Learnt
+cholesky_decompose_lower_one T R d κs a z z' w w' p q = (by_seen T (λ A. Outcome (List A)) p q, refl)
 
-pub invert_l_cholesky_one : OneAnswer invert_l_cholesky_of.ps invert_l_cholesky_of.r invert_l_cholesky.Learnt
-invert_l_cholesky_one κs a z z' w w' p q = (by p q, refl)
+pub invert_l_cholesky_one : OneAnswerOf invert_l_cholesky_of.ps invert_l_cholesky_of.r invert_l_cholesky.Learnt
+invert_l_cholesky_one T κs a z z' w w' p q = (by_floats T p q, refl)
 
-pub mult_transb_one : OneAnswer mult_transb_of.ps mult_transb_of.r mult_transb.Learnt
-mult_transb_one κs a z z' w w' p q = (by p q, refl)
+pub mult_transb_one : OneAnswerOf mult_transb_of.ps mult_transb_of.r mult_transb.Learnt
+mult_transb_one T κs a z z' w w' p q = (by_floats T p q, refl)
 
 pub place_one : OneAnswer place_of.ps place_of.r place.Learnt
 place_one κs a z z' w w' p q = (by p.0 q.0, refl)
 
-pub compute_weights_one : OneAnswer compute_weights_of.ps compute_weights_of.r compute_weights.Learnt
-compute_weights_one κs a z z' w w' p q = (by p q, refl)
+pub compute_weights_one : OneAnswerOf compute_weights_of.ps compute_weights_of.r compute_weights.Learnt
+compute_weights_one T κs a z z' w w' p q = (by_seen T Weighting p q, refl)
 
-pub scale_one : OneAnswer scale_of.ps scale_of.r scale.Learnt
-scale_one κs a z z' w w' p q = (by p q, refl)
+pub scale_one : OneAnswerOf scale_of.ps scale_of.r scale.Learnt
+scale_one T κs a z z' w w' p q = (by_float T p q, refl)
 
-pub center_weight_one : OneAnswer center_weight_of.ps center_weight_of.r center_weight.Learnt
-center_weight_one κs a z z' w w' p q = (by p q, refl)
+pub center_weight_one : OneAnswerOf center_weight_of.ps center_weight_of.r center_weight.Learnt
+center_weight_one T κs a z z' w w' p q = (by_float T p q, refl)
 
-pub weights_one : OneAnswer weights_of.ps weights_of.r weights.Learnt
-weights_one κs a z z' w w' p q = (by p q, refl)
+pub weights_one : OneAnswerOf weights_of.ps weights_of.r weights.Learnt
+weights_one T κs a z z' w w' p q = (by_floats T p q, refl)
 
-pub weights_pass_one : OneAnswer weights_pass_of.ps weights_pass_of.r weights_pass.Learnt
-weights_pass_one κs a z z' w w' p q = (by p q, refl)
+pub weights_pass_one : OneAnswerOf weights_pass_of.ps weights_pass_of.r weights_pass.Learnt
+weights_pass_one T κs a z z' w w' p q = (by p q, refl)
 
-pub generate_sigma_points_one : OneAnswer generate_sigma_points_of.ps generate_sigma_points_of.r generate_sigma_points.Learnt
-generate_sigma_points_one κs a z z' w w' p q = (by p q, refl)
+pub generate_sigma_points_one : OneAnswerMore Rooted.Ghosts generate_sigma_points_of.ps generate_sigma_points_of.r generate_sigma_points.Learnt
+generate_sigma_points_one T R d κs a z z' w w' p q = (by_seen T (λ A. Outcome (List A)) p q, refl)
 
-pub anchored_mean_one : OneAnswer anchored_mean_of.ps anchored_mean_of.r anchored_mean.Learnt
-anchored_mean_one κs a z z' w w' p q = (by p q, refl)
+pub anchored_mean_one : OneAnswerOf anchored_mean_of.ps anchored_mean_of.r anchored_mean.Learnt
+anchored_mean_one T κs a z z' w w' p q = (by_floats T p q, refl)
 
-pub deviations_one : OneAnswer deviations_of.ps deviations_of.r deviations.Learnt
-deviations_one κs a z z' w w' p q = (by p q, refl)
+pub deviations_one : OneAnswerOf deviations_of.ps deviations_of.r deviations.Learnt
+deviations_one T κs a z z' w w' p q = (by_floats T p q, refl)
 
-pub spread_one : OneAnswer spread_of.ps spread_of.r spread.Learnt
-spread_one κs a z z' w w' p q = (by p q, refl)
+pub spread_one : OneAnswerOf spread_of.ps spread_of.r spread.Learnt
+spread_one T κs a z z' w w' p q = (by_floats T p q, refl)
 
-pub refuse_one : OneAnswer refuse_of.ps refuse_of.r refuse.Learnt
-refuse_one κs a z z' w w' p q = (by p q, refl)
+pub reconstruct_prediction_one : OneAnswerOf reconstruct_prediction_of.ps reconstruct_prediction_of.r reconstruct_prediction.Learnt
+reconstruct_prediction_one T κs a z z' w w' p q = (by_seen T (λ A. Outcome (Moments A)) p q, refl)
 
-pub reconstruct_prediction_one : OneAnswer reconstruct_prediction_of.ps reconstruct_prediction_of.r reconstruct_prediction.Learnt
-reconstruct_prediction_one κs a z z' w w' p q = (by p q, refl)
+pub correct_with_weights_residuals_one : OneAnswerMore Rooted.Ghosts correct_with_weights_residuals_of.ps correct_with_weights_residuals_of.r correct_with_weights_residuals.Learnt
+correct_with_weights_residuals_one T R d κs a z z' w w' p q = (by_seen T (λ A. Outcome (Moments A)) p q, refl)
 
-pub correct_with_weights_residuals_one : OneAnswer correct_with_weights_residuals_of.ps correct_with_weights_residuals_of.r correct_with_weights_residuals.Learnt
-correct_with_weights_residuals_one κs a z z' w w' p q = (by p q, refl)
-
-pub correct_nonlinear_one : OneAnswer correct_nonlinear_of.ps correct_nonlinear_of.r correct_nonlinear.Learnt
-correct_nonlinear_one κs a z z' w w' p q = (by p q, refl)
+pub correct_nonlinear_one : OneAnswerMore Rooted.Ghosts correct_nonlinear_of.ps correct_nonlinear_of.r correct_nonlinear.Learnt
+correct_nonlinear_one T R d κs a z z' w w' p q = (by_seen T (λ A. Outcome (Moments A)) p q, refl)
 
 pub early_refusal_one : OneAnswer early_refusal_of.ps early_refusal_of.r early_refusal.Learnt
 early_refusal_one κs a z z' w w' p q = (by p q, refl)
@@ -390,8 +474,8 @@ in_range_one κs a z z' w w' p q = (by p q, refl)
 pub is_sized_one : OneAnswer is_sized_of.ps is_sized_of.r is_sized.Learnt
 is_sized_one κs a z z' w w' p q = (by p q, refl)
 
-pub both_one : OneAnswer both_of.ps both_of.r both.Learnt
-both_one κs a z z' w w' p q = (by p q, refl)
+pub is_state_one : OneAnswer is_state_of.ps is_state_of.r is_state.Learnt
+is_state_one κs a z z' w w' p q = (by p q, refl)
 
 pub square_one : OneAnswer square_of.ps square_of.r square.Learnt
 square_one κs a z z' w w' p q = (by p q, refl)
@@ -402,56 +486,59 @@ point_numbers_one κs a z z' w w' p q = (by p q, refl)
 pub last_point_one : OneAnswer last_point_of.ps last_point_of.r last_point.Learnt
 last_point_one κs a z z' w w' p q = (by p q, refl)
 
-pub new_sheet_one : OneAnswer new_sheet_of.ps new_sheet_of.r new_sheet.Learnt
-new_sheet_one κs a z z' w w' p q = (by p q, refl)
+pub new_sheet_one : OneAnswerOf new_sheet_of.ps new_sheet_of.r new_sheet.Learnt
+new_sheet_one T κs a z z' w w' p q = (by_seen T NewSheet p q, refl)
 
-pub new_track_one : OneAnswer new_track_of.ps new_track_of.r new_track.Learnt
-new_track_one κs a z z' w w' p q = (by p q, refl)
+pub new_track_one : OneAnswerOf new_track_of.ps new_track_of.r new_track.Learnt
+new_track_one T κs a z z' w w' p q = (by_seen T NewTrack p q, refl)
 
-pub empty_sheet_one : OneAnswer empty_sheet_of.ps empty_sheet_of.r empty_sheet.Learnt
-empty_sheet_one κs a z z' w w' p q = (by p q, refl)
+pub empty_sheet_one : OneAnswerOf empty_sheet_of.ps empty_sheet_of.r empty_sheet.Learnt
+empty_sheet_one T κs a z z' w w' p q = (by_seen T Sheet p q, refl)
 
-pub empty_track_one : OneAnswer empty_track_of.ps empty_track_of.r empty_track.Learnt
-empty_track_one κs a z z' w w' p q = (by p q, refl)
+pub empty_params_one : OneAnswerOf empty_params_of.ps empty_params_of.r empty_params.Learnt
+empty_params_one T κs a z z' w w' p q = (by_seen T Params p q, refl)
 
-pub refused_one : OneAnswer refused_of.ps refused_of.r refused.Learnt
-refused_one κs a z z' w w' p q = (by p q, refl)
+pub empty_track_one : OneAnswerOf empty_track_of.ps empty_track_of.r empty_track.Learnt
+empty_track_one T κs a z z' w w' p q = (by_seen T Track p q, refl)
 
-pub fresh_track_one : OneAnswer fresh_track_of.ps fresh_track_of.r fresh_track.Learnt
-fresh_track_one κs a z z' w w' p q = (by p q, refl)
+pub refused_one : OneAnswerOf refused_of.ps refused_of.r refused.Learnt
+refused_one T κs a z z' w w' p q = (by_seen T Answer p q, refl)
+
+pub fresh_track_one : OneAnswerOf fresh_track_of.ps fresh_track_of.r fresh_track.Learnt
+fresh_track_one T κs a z z' w w' p q = (by_seen T Track p q, refl)
 
 pub sooner_one : OneAnswer sooner_of.ps sooner_of.r sooner.Learnt
 sooner_one κs a z z' w w' p q = (by p q, refl)
 
-pub new_one : OneAnswer new_of.ps new_of.r new.Learnt
-new_one κs a z z' w w' p q = (by p q, refl)
+pub new_one : OneAnswerOf new_of.ps new_of.r new.Learnt
+new_one T κs a z z' w w' p q = (by_seen T Answer p q, refl)
 
-pub set_x_one : OneAnswer set_x_of.ps set_x_of.r set_x.Learnt
-set_x_one κs a z z' w w' p q = (by p q, refl)
+pub set_x_one : OneAnswerOf set_x_of.ps set_x_of.r set_x.Learnt
+set_x_one T κs a z z' w w' p q = (by_seen T Answer p q, refl)
 
-pub set_p_one : OneAnswer set_p_of.ps set_p_of.r set_p.Learnt
-set_p_one κs a z z' w w' p q = (by p q, refl)
+pub set_p_one : OneAnswerOf set_p_of.ps set_p_of.r set_p.Learnt
+set_p_one T κs a z z' w w' p q = (by_seen T Answer p q, refl)
 
-pub set_q_one : OneAnswer set_q_of.ps set_q_of.r set_q.Learnt
-set_q_one κs a z z' w w' p q = (by p q, refl)
+pub set_q_one : OneAnswerOf set_q_of.ps set_q_of.r set_q.Learnt
+set_q_one T κs a z z' w w' p q = (by_seen T Answer p q, refl)
 
-pub set_params_one : OneAnswer set_params_of.ps set_params_of.r set_params.Learnt
-set_params_one κs a z z' w w' p q = (by p q, refl)
+pub set_params_one : OneAnswerOf set_params_of.ps set_params_of.r set_params.Learnt
+set_params_one T κs a z z' w w' p q = (by_seen T Answer p q, refl)
 
-pub set_kind_one : OneAnswer set_kind_of.ps set_kind_of.r set_kind.Learnt
-set_kind_one κs a z z' w w' p q = (by p q, refl)
+pub set_kind_one : OneAnswerOf set_kind_of.ps set_kind_of.r set_kind.Learnt
+set_kind_one T κs a z z' w w' p q = (by_seen T Answer p q, refl)
 
-pub close_prediction_one : OneAnswer close_prediction_of.ps close_prediction_of.r close_prediction.Learnt
-close_prediction_one κs a z z' w w' p q = (by p q, refl)
+pub close_prediction_one : OneAnswerMore Rooted.Ghosts close_prediction_of.ps close_prediction_of.r close_prediction.Learnt
+close_prediction_one T R d κs a z z' w w' p q = (by_seen T Answer p q, refl)
 
-pub close_correction_one : OneAnswer close_correction_of.ps close_correction_of.r close_correction.Learnt
-close_correction_one κs a z z' w w' p q = (by p q, refl)
+pub close_correction_one : OneAnswerMore Rooted.Ghosts close_correction_of.ps close_correction_of.r close_correction.Learnt
+close_correction_one T R d κs a z z' w w' p q = (by_seen T Answer p q, refl)
 
-pub close_correction_flat_one : OneAnswer close_correction_flat_of.ps close_correction_flat_of.r close_correction_flat.Learnt
-close_correction_flat_one κs a z z' w w' p q = (by p q, refl)
+pub close_correction_flat_one : OneAnswerMore Rooted.Ghosts close_correction_flat_of.ps close_correction_flat_of.r close_correction_flat.Learnt
+close_correction_flat_one T R d κs a z z' w w' p q = (by_seen T Answer p q, refl)
 
-pub abandon_one : OneAnswer abandon_of.ps abandon_of.r abandon.Learnt
-abandon_one κs a z z' w w' p q = (by p q, refl)
+pub abandon_one : OneAnswerMore Rooted.Ghosts abandon_of.ps abandon_of.r abandon.Learnt
+abandon_one T R d κs a z z' w w' p q = (by_seen T Answer p q, refl)
 
 -- the stepped calls
 
@@ -479,47 +566,50 @@ stepped_close_correction_one κs a z z' w w' p q = (by p q, refl)
 pub stepped_close_correction_flat_one : OneAnswer stepped_close_correction_flat_of.ps stepped_close_correction_flat_of.r stepped_close_correction_flat.Learnt
 stepped_close_correction_flat_one κs a z z' w w' p q = (by p q, refl)
 
-pub read_params_one : OneAnswer read_params_of.ps read_params_of.r read_params.Learnt
-read_params_one κs a z z' w w' p q = (by p q, refl)
+pub read_params_one : OneAnswerOf read_params_of.ps read_params_of.r read_params.Learnt
+read_params_one T κs a z z' w w' p q = (by_seen T ParamsRead p q, refl)
 
-pub read_stale_one : OneAnswer read_stale_of.ps read_stale_of.r read_stale.Learnt
-read_stale_one κs a z z' w w' p q = (by p q, refl)
+pub read_stale_one : OneAnswerOf read_stale_of.ps read_stale_of.r read_stale.Learnt
+read_stale_one T κs a z z' w w' p q = (by p q, refl)
 
-pub open_prediction_one : OneAnswer open_prediction_of.ps open_prediction_of.r open_prediction.Learnt
-open_prediction_one κs a z z' w w' p q = (by p.0 q.0, lent (by p.1 q.1))
+pub open_prediction_one : OneAnswerMore Rooted.Ghosts open_prediction_of.ps open_prediction_of.r open_prediction.Learnt
+open_prediction_one T R d κs a z z' w w' p q = (by_seen T Answer p.0 q.0, lent (by_floats T p.1 q.1))
 
-pub open_correction_one : OneAnswer open_correction_of.ps open_correction_of.r open_correction.Learnt
-open_correction_one κs a z z' w w' p q = (by p.0 q.0, lent (by p.1 q.1))
+pub open_correction_one : OneAnswerMore Rooted.Ghosts open_correction_of.ps open_correction_of.r open_correction.Learnt
+open_correction_one T R d κs a z z' w w' p q = (by_seen T Answer p.0 q.0, lent (by_floats T p.1 q.1))
 
-pub read_x_one : OneAnswer read_x_of.ps read_x_of.r read_x.Learnt
-read_x_one κs a z z' w w' p q = (by p.0 q.0, lent (by p.1 q.1))
+pub read_x_one : OneAnswerOf read_x_of.ps read_x_of.r read_x.Learnt
+read_x_one T κs a z z' w w' p q = (by p.0 q.0, lent (by_floats T p.1 q.1))
 
-pub read_p_one : OneAnswer read_p_of.ps read_p_of.r read_p.Learnt
-read_p_one κs a z z' w w' p q = (by p.0 q.0, lent (by p.1 q.1))
+pub read_p_one : OneAnswerOf read_p_of.ps read_p_of.r read_p.Learnt
+read_p_one T κs a z z' w w' p q = (by p.0 q.0, lent (by_floats T p.1 q.1))
 
-pub read_q_one : OneAnswer read_q_of.ps read_q_of.r read_q.Learnt
-read_q_one κs a z z' w w' p q = (by p.0 q.0, lent (by p.1 q.1))
+pub read_q_one : OneAnswerOf read_q_of.ps read_q_of.r read_q.Learnt
+read_q_one T κs a z z' w w' p q = (by p.0 q.0, lent (by_floats T p.1 q.1))
 
-pub read_points_one : OneAnswer read_points_of.ps read_points_of.r read_points.Learnt
-read_points_one κs a z z' w w' p q = (by p.0 q.0, lent (by p.1 q.1))
+pub read_points_one : OneAnswerOf read_points_of.ps read_points_of.r read_points.Learnt
+read_points_one T κs a z z' w w' p q = (by p.0 q.0, lent (by_floats T p.1 q.1))
 
-pub point_refusal_one : OneAnswer point_refusal_of.ps point_refusal_of.r point_refusal.Learnt
-point_refusal_one κs a z z' w w' p q = (by p q, refl)
+pub point_refusal_one : OneAnswerOf point_refusal_of.ps point_refusal_of.r point_refusal.Learnt
+point_refusal_one T κs a z z' w w' p q = (by p q, refl)
 
-pub point_one : OnePart point_of.ps point_of.r point.Learnt (λ κs z. z)
-point_one κs a z z' w w' p q = (by p.1 q.1, by p.0 q.0, refl)
+pub part_one : OnePartMore Spaced.Ghosts part_of.ps part_of.r part.Learnt (λ R L C κs z. z)
+part_one T R d κs a z z' w w' p q = (by p.1 q.1, by p.0 q.0, refl)
 
-pub float_of_one : OneAnswer float_of_of.ps float_of_of.r float_of.Learnt
-float_of_one κs a z z' w w' p q = (by p q, refl)
+pub point_one : OnePartMore Spaced.Ghosts point_of.ps point_of.r point.Learnt (λ R L C κs z. z)
+point_one T R d κs a z z' w w' p q = (by p.1 q.1, by_floats T p.0 q.0, refl)
 
-pub bits_of_one : OneAnswer bits_of_of.ps bits_of_of.r bits_of.Learnt
-bits_of_one κs a z z' w w' p q = (by p q, refl)
+pub float_of_one : OneAnswerMore Worded.Ghosts float_of_of.ps float_of_of.r float_of.Learnt
+float_of_one T R d κs a z z' w w' p q = (by_float T p q, refl)
+
+pub bits_of_one : OneAnswerMore Worded.Ghosts bits_of_of.ps bits_of_of.r bits_of.Learnt
+bits_of_one T R d κs a z z' w w' p q = (by p.0 q.0, refl)
 
 pub digit_one : OneAnswer digit_of.ps digit_of.r digit.Learnt
 digit_one κs a z z' w w' p q = (by p q, refl)
 
-pub word_at_one : OneAnswer word_at_of.ps word_at_of.r word_at.Learnt
-word_at_one κs a z z' w w' p q = (by p q, refl)
+pub word_at_one : OneAnswerMore Worded.Ghosts word_at_of.ps word_at_of.r word_at.Learnt
+word_at_one T R d κs a z z' w w' p q = (by p q, refl)
 
 pub name_of_one : OneAnswer name_of_of.ps name_of_of.r name_of.Learnt
 name_of_one κs a z z' w w' p q = (by p q, refl)
@@ -530,11 +620,11 @@ call_at_one κs a z z' w w' p q = (by p q, refl)
 pub size_at_one : OneAnswer size_at_of.ps size_at_of.r size_at.Learnt
 size_at_one κs a z z' w w' p q = (by p q, refl)
 
-pub number_at_one : OneAnswer number_at_of.ps number_at_of.r number_at.Learnt
-number_at_one κs a z z' w w' p q = (by p q, refl)
+pub number_at_one : OneAnswerMore Worded.Ghosts number_at_of.ps number_at_of.r number_at.Learnt
+number_at_one T R d κs a z z' w w' p q = (by_seen T (λ A. Option (Read A)) p q, refl)
 
-pub kind_at_one : OneAnswer kind_at_of.ps kind_at_of.r kind_at.Learnt
-kind_at_one κs a z z' w w' p q = (by p q, refl)
+pub kind_at_one : OneAnswerMore Worded.Ghosts kind_at_of.ps kind_at_of.r kind_at.Learnt
+kind_at_one T R d κs a z z' w w' p q = (by_seen T (λ A. Option (Read (Kind A))) p q, refl)
 
 pub is_blank_one : OneAnswer is_blank_of.ps is_blank_of.r is_blank.Learnt
 is_blank_one κs a z z' w w' p q = (by p q, refl)
@@ -551,8 +641,8 @@ no_token_one κs a z z' w w' p q = (by p q, refl)
 pub same_bytes_one : OneAnswer same_bytes_of.ps same_bytes_of.r same_bytes.Learnt
 same_bytes_one κs a z z' w w' p q = (by p q, refl)
 
-pub list_at_one : OneAnswer list_at_of.ps list_at_of.r list_at.Learnt
-list_at_one κs a z z' w w' p q = (by p.0 q.0, ap (λ (l : List Float). (tt, (tt, (l, tt)))) (by p.1 q.1))
+pub list_at_one : OneAnswerMore Worded.Ghosts list_at_of.ps list_at_of.r list_at.Learnt
+list_at_one T R d κs a z z' w w' p q = (by p.0 q.0, ap (λ (l : List T.row.Denot). (tt, (tt, (l, tt)))) (by_floats T p.1 q.1))
 
 pub put_one : OneAnswer put_of.ps put_of.r put.Learnt
 put_one κs a z z' w w' p q = (by p.0 q.0, ap (λ (l : List ℕ). (l, (tt, (tt, tt)))) (by p.1 q.1))
@@ -572,22 +662,23 @@ put_stage_one κs a z z' w w' p q = (by p.0 q.0, ap (λ (l : List ℕ). (l, (tt,
 pub put_way_one : OneAnswer put_way_of.ps put_way_of.r put_way.Learnt
 put_way_one κs a z z' w w' p q = (by p.0 q.0, ap (λ (l : List ℕ). (l, (tt, (tt, tt)))) (by p.1 q.1))
 
-pub put_number_one : OneAnswer put_number_of.ps put_number_of.r put_number.Learnt
-put_number_one κs a z z' w w' p q = (by p.0 q.0, ap (λ (l : List ℕ). (l, (tt, (tt, tt)))) (by p.1 q.1))
+pub put_number_one : OneAnswerMore Worded.Ghosts put_number_of.ps put_number_of.r put_number.Learnt
+put_number_one T R d κs a z z' w w' p q = (by p.0 q.0, ap (λ (l : List ℕ). (l, (tt, (tt, tt)))) (by p.1 q.1))
 
-pub put_numbers_one : OneAnswer put_numbers_of.ps put_numbers_of.r put_numbers.Learnt
-put_numbers_one κs a z z' w w' p q = (by p.0 q.0, ap (λ (l : List ℕ). (l, (tt, (tt, (tt, tt))))) (by p.1 q.1))
+pub put_numbers_one : OneAnswerMore Worded.Ghosts put_numbers_of.ps put_numbers_of.r put_numbers.Learnt
+put_numbers_one T R d κs a z z' w w' p q = (by p.0 q.0, ap (λ (l : List ℕ). (l, (tt, (tt, (tt, tt))))) (by p.1 q.1))
 
--- ---- A WEAKER CONTRACT FAILS IT: of the wrap, the number alone, and nothing of the value
+-- ---- A WEAKER CONTRACT FAILS IT: of the wrap, what it is refused for, and nothing of the value
 
-abbrev numbered : Out 0 wrap_of_lem.ps wrap_of_lem.r
-numbered κs a z s = z.refusal ≡ refusal (wrap_of binary64 a.0 a.1.0)
+abbrev refusals : OfNumber wrap_of.ps wrap_of.r
+refusals R L C number _ _ _ _ _ _ _ _ _ _ _ _ _ _ _ _ _ κs a z s = refusal (number.seen Outcome z) ≡ refusal (Wrap.wrap_of number.format (number.float a.0) (number.float a.1.0))
 
-pub numbered_several : OneAnswer wrap_of_lem.ps wrap_of_lem.r numbered → ⊥
-numbered_several one = apart (ap (λ (z : Wrapped). z.value) (one tt (plus_zero, (plus_zero, tt)) (answer plus_zero) (answer nan) _ _ refl refl).0)
+pub refusals_several : OneAnswerOf wrap_of.ps wrap_of.r refusals → ⊥
+unfolding Wrap.wrap_of Numbers.all_finite lt add
+refusals_several one = apart (ap (λ (z : Outcome Float). or plus_zero z) (one f64 ([], tt) (plus_zero, (one_number, tt)) (accepted plus_zero) (accepted nan) (tt, (tt, tt)) (tt, (tt, tt)) passes passes).0)
   where
-    answer : Float → Wrapped
-    answer v = record { refusal = refusal (wrap_of binary64 plus_zero plus_zero); value = v }
+    passes : refusal (accepted plus_zero) ≡ refusal (Wrap.wrap_of binary64 plus_zero one_number)
+    passes = refl
 
     apart : plus_zero ≡ nan → ⊥
     apart e = let z : ◌≡◌ {A = ℕ} 0 1 = cc in omega arith

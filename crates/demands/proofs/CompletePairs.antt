@@ -2,7 +2,6 @@
 use Prim.Native.Nat.{ℕ}
 use mathlib.Core.Path.{◌≡◌, refl, ap}
 use mathlib.Core.List.{List}
-use lib.Ieee.{Float}
 use Rattle.pairs.specs.declared.Side.TheVariants.{First}
 use Rattle.demands.proofs.Complete.{OneAnswer, by}
 use Rattle.pairs.proofs.Pair.new.Kinds as new_of
@@ -61,8 +60,8 @@ use Rattle.pairs.proofs.Pair.save.Kinds as save_of
 use Rattle.pairs.proofs.Pair.save.Reads as save
 
 -- the one lent buffer, after self and the side
-lent : {l m : List Float} → l ≡ m → ◌≡◌ {A = Unit {0} × (Unit {0} × (List Float × Unit {0}))} (tt, (tt, (l, tt))) (tt, (tt, (m, tt)))
-lent e = ap (λ (l : List Float). (tt, (tt, (l, tt)))) e
+lent : {A : Type 0} {l m : List A} → l ≡ m → ◌≡◌ {A = Unit {0} × (Unit {0} × (List A × Unit {0}))} (tt, (tt, (l, tt))) (tt, (tt, (m, tt)))
+lent {A} e = ap (λ (l : List A). (tt, (tt, (l, tt)))) e
 
 pub new_one : OneAnswer new_of.ps new_of.r new.Learnt
 new_one κs a z z' w w' p q = (by p q, refl)

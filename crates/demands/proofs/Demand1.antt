@@ -10,20 +10,22 @@ use lib.ListN.{length, take}
 use lib.Ieee.{Float, Format, add}
 use Rattle.floats.specs.declared.Slice.{Slice}
 use Rattle.floats.specs.declared.Slice.TheVariants.{State, Covariance, Noise, Points, Measurement, Lone}
-use Rattle.floats.specs.Refusal.{Refusal, NUMBER, PARAM, SIZE, SHORT, STAGE, KIND, PIVOT, INNOV, bad_lone, verdict, taken, Outcome, refusal}
+use Rattle.floats.specs.declared.Refusal.{Refusal}
+use Rattle.floats.specs.declared.Refusal.TheVariants.{Number as NUMBER, Param as PARAM, Size as SIZE, Short as SHORT, Stage as STAGE, Kind as KIND, Pivot as PIVOT, Innovation as INNOV}
+use Rattle.floats.specs.Refusal.{bad_lone, verdict, taken, Outcome, refusal}
 use Rattle.floats.specs.Search.{Input}
 use Rattle.floats.specs.Numbers.{plus_zero, zeros, all_finite}
 use Rattle.floats.specs.Fronts.{front, over}
 use Rattle.root.specs.Answer.{root_outcome}
-use Rattle.angles.specs.Wrap.{wrap_of, wrapped}
+use Rattle.angles.specs.Wrap.{wrap_of}
 use Rattle.angles.specs.Kinds.{kind_of}
-use Rattle.angles.specs.declared.Kind.{Kind}
+use Rattle.angles.specs.Kinds.{Kind}
 use Rattle.matrix.specs.Results.{planned}
 use Rattle.matrix.specs.Factored.{BadPivot}
-use Rattle.sigma.specs.declared.Params.{Params}
+use Rattle.sigma.specs.Weights.{Params}
 use Rattle.sigma.specs.Weights.{scale_of, w0m_of}
 use Rattle.sigma.specs.Draw.{point_numbers}
-use Rattle.filter.specs.declared.Filter.{Filter}
+use Rattle.filter.specs.Types.{Filter}
 use Rattle.filter.specs.Asked.{of_numbers, by_params, Asks}
 use Rattle.filter.specs.Filters.{is_shut, is_predicting_stepped, is_correcting_stepped, is_stepped, seen}
 use Rattle.filter.specs.Calls.{Call, writing, setting, stepping, closing, closing_stepped, set_kind, open_prediction, open_correction, open_prediction_stepped, open_correction_stepped, ask, image_prediction, image_correction, SteppedClose, close_prediction_stepped, close_correction_stepped, close_correction_flat_stepped, with_list, close_prediction, close_correction, close_correction_flat, fits, halves, as_kinds, named, asks, plan, weighted_from, flat_from}
@@ -35,7 +37,7 @@ use Rattle.demands.specs.Rows.{Some, NotFinite, NotAbove, Below, OutOfRange, Fir
 use Rattle.demands.specs.Listed.{listed_at_open, listed_at_prediction, listed_at_head, listed_at_correction}
 use Rattle.demands.specs.Runs.{told}
 use Rattle.demands.specs.Sound.{Sound, Tidy, Reached, Yielded, handed_out, Each}
-use Rattle.demands.proofs.Exactly.{exactly, taken_exactly, new_exactly, new_taken, new_track_exactly, new_track_taken, new_sheet_exactly, new_sheet_taken, load_exactly, load_taken, point_exactly, point_taken, wrap_exactly, wrap_taken, wrap_refused, root_exactly, root_taken, kind_exactly, kind_taken, one_of, ends_so, refused_unwritten, refused_values, new_refused, load_refused, new_track_refused, new_sheet_refused, point_refused}
+use Rattle.demands.proofs.Exactly.{exactly, taken_exactly, new_exactly, new_taken, new_track_exactly, new_track_taken, new_sheet_exactly, new_sheet_taken, load_exactly, load_taken, point_exactly, point_taken, wrap_exactly, wrap_taken, root_exactly, root_taken, kind_exactly, kind_taken, one_of, ends_so, refused_unwritten, refused_values, new_refused, load_refused, new_track_refused, new_sheet_refused, point_refused}
 use Rattle.demands.proofs.Places.{some_bad, one_bad, turn_at, placed_of, placed_so}
 use Rattle.demands.proofs.Pivots.{number_exactly, pivot_by_open, innov_by_correction, range_by_steps, prediction_pivot, correction_opened_pivot, correction_closed_pivot, flat_correction_pivot}
 use Rattle.demands.proofs.Listed.{open_prediction_lists, open_correction_lists, open_prediction_stepped_lists, open_correction_stepped_lists, close_prediction_lists, close_correction_lists, close_correction_flat_lists}
@@ -149,15 +151,11 @@ module _ (f : Format) where
 
   -- of the wrap: 56 at 0 exactly when d or h isn't finite, 6 exactly when both are finite and h isn't above 0 or 2h isn't finite, and no other number,
   pub wrap_exactly_when : (d h : Float) (r : Refusal)
-      → ((wrapped (wrap_of f d h)).refusal ≡ verdict r) ↔ (((r ≡ bad_lone) × (NotFinite d ⊎ NotFinite h)) ⊎ ((r ≡ PARAM) × (NotFinite d ⊎ NotFinite h → ⊥) × (NotAbove h ⊎ NotFinite (add f h h))))
+      → (refusal (wrap_of f d h) ≡ verdict r) ↔ (((r ≡ bad_lone) × (NotFinite d ⊎ NotFinite h)) ⊎ ((r ≡ PARAM) × (NotFinite d ⊎ NotFinite h → ⊥) × (NotAbove h ⊎ NotFinite (add f h h))))
   wrap_exactly_when = wrap_exactly f
 
-  pub wrap_taken_when : (d h : Float) → ((wrapped (wrap_of f d h)).refusal ≡ taken) ↔ ((NotFinite d ⊎ NotFinite h → ⊥) × (NotAbove h ⊎ NotFinite (add f h h) → ⊥))
+  pub wrap_taken_when : (d h : Float) → (refusal (wrap_of f d h) ≡ taken) ↔ ((NotFinite d ⊎ NotFinite h → ⊥) × (NotAbove h ⊎ NotFinite (add f h h) → ⊥))
   wrap_taken_when = wrap_taken f
-
-  -- a refused wrap gives +0,
-  pub refused_wrap : (d h : Float) → (wrapped (wrap_of f d h)).refusal.number ≢ 0 → (wrapped (wrap_of f d h)).value ≡ plus_zero
-  refused_wrap = wrap_refused f
 
   -- of the root: 56 at 0 exactly when x isn't finite or is below zero, and no other number,
   pub root_exactly_when : (x : Float) (r : Refusal) → (refusal (root_outcome f x) ≡ verdict r) ↔ ((r ≡ bad_lone) × (NotFinite x ⊎ Below x))
@@ -168,10 +166,10 @@ module _ (f : Format) where
 
   -- and of the check of a kind: 56 at 0 exactly when it is a turn by a number that isn't finite, 6 exactly when it is a turn by a finite number that isn't above 0 or whose double isn't finite, and no other number. Setting a kind answers the same, once 3 and 1 are passed.
   pub kind_exactly_when : (k : Kind) (r : Refusal)
-      → (refusal (kind_of f k) ≡ verdict r) ↔ (((r ≡ bad_lone) × BadTurn k) ⊎ ((r ≡ PARAM) × (BadTurn k → ⊥) × UnfitTurn f k.residual))
+      → (refusal (kind_of f k) ≡ verdict r) ↔ (((r ≡ bad_lone) × BadTurn k) ⊎ ((r ≡ PARAM) × (BadTurn k → ⊥) × UnfitTurn f k))
   kind_exactly_when = kind_exactly f
 
-  pub kind_taken_when : (k : Kind) → (refusal (kind_of f k) ≡ taken) ↔ ((BadTurn k → ⊥) × (UnfitTurn f k.residual → ⊥))
+  pub kind_taken_when : (k : Kind) → (refusal (kind_of f k) ≡ taken) ↔ ((BadTurn k → ⊥) × (UnfitTurn f k → ⊥))
   kind_taken_when = kind_taken f
 
   pub kind_set : (s : Filter) (i : ℕ) (k : Kind) → is_shut s.track.stage ≡ true → (1 ≤ s.sheet.n) × (s.sheet.n ≤ 8) → i < s.sheet.n → (step f s (writing (set_kind i k))).reply.refusal ≡ refusal (kind_of f k)

@@ -1,5 +1,5 @@
 -- Demand 2: every number is worked out by document 01's steps, and the flat close's by those of document 02, bit for bit. The contracts say it: each names one definition, and says that all of the answer is it.
--- Here is a line for each step, which function's contract names which definition (crates by their f64 names; at f32 the namesake's, at binary32, where there is one); under it, where the definition is not the document's own text, a law that it comes to that. Over every format. Assumes nothing.
+-- Here is a line for each step, which function's contract names which definition (at binary64 of an f64, at binary32 of an f32); under it, where the definition is not the document's own text, a law that it comes to that. Over every format. Assumes nothing.
 use Prim.Native.Nat.{ℕ, zero, suc, ◌+◌, ◌-◌, ◌*◌, ◌<◌, ◌≤◌}
 use mathlib.Core.Path.{◌≡◌, refl, sym, ap, ◌∙◌}
 use mathlib.Core.Bool.{true, false}
@@ -9,22 +9,23 @@ use native.Mathlib.Omega.{arith}
 use lib.Dec.{T}
 use lib.IntN.{pos}
 use lib.ListN.{get_or, take}
-use lib.Ieee.{Float, nan, Format, binary64, fits, add, sub, mul, div, of_int}
+use lib.Ieee.{Float, nan, Format, fits, add, sub, mul, div, of_int}
 use lib.Ieee.Scale.{finite}
 use lib.Ieee.Fits.{add-fits, sub-fits, mul-fits, div-fits}
-use Rattle.floats.specs.Refusal.{Refusal, PIVOT, taken, Outcome, accepted}
+use Rattle.floats.specs.declared.Refusal.{Refusal}
+use Rattle.floats.specs.declared.Refusal.TheVariants.{Pivot as PIVOT}
+use Rattle.floats.specs.Refusal.{taken, Outcome, accepted}
 use Rattle.floats.specs.Numbers.{plus_zero, zeros}
 use Rattle.floats.specs.Fronts.{front}
 use Rattle.root.specs.Definition.{root_of, rooted}
 use Rattle.root.specs.Nearest.{Nearest}
-use Rattle.root.specs.Answer.{outcome_of, root_outcome, Asked}
-use Rattle.root.specs.declared.Root.{Root}
-use Rattle.root.proofs.Answers.{nearest_root, one_case, asked, asked_only}
-use Rattle.angles.specs.Wrap.{wrap_of, wrapped}
+use Rattle.root.specs.Answer.{root_outcome, Asked}
+use Rattle.root.proofs.Answers.{nearest_root, asked, asked_only}
+use Rattle.angles.specs.Wrap.{wrap_of}
 use Rattle.angles.specs.Exact.{Wraps}
 use Rattle.angles.specs.Kinds.{plain, through_of, kind_of}
-use Rattle.angles.specs.declared.Kind.{Kind}
-use Rattle.angles.specs.declared.Residual.TheVariants.{Turn}
+use Rattle.angles.specs.Kinds.{Kind}
+use Rattle.angles.specs.declared.Kind.TheVariants.{Turn}
 use Rattle.angles.proofs.Exact.{wrap_exact, through_exact}
 use Rattle.matrix.specs.Folds.{total_of}
 use Rattle.matrix.specs.Sums.{product_at, plus_of, minus_of}
@@ -37,7 +38,7 @@ use Rattle.matrix.proofs.Flat.{row_before}
 use Rattle.matrix.proofs.Results.{work_accepted}
 use Rattle.matrix.proofs.FactorLaws.{is_factor}
 use Rattle.matrix.proofs.InverseLaws.{forward_at_lem, inverse_at}
-use Rattle.sigma.specs.declared.Params.{Params}
+use Rattle.sigma.specs.Weights.{Params}
 use Rattle.sigma.specs.Weights.{scale_of, w0m_of, w0c_of, wi_of, weights_of}
 use Rattle.sigma.specs.Draw.{point_numbers, points_of, draw_plan}
 use Rattle.sigma.specs.Mean.{mean_of}
@@ -49,10 +50,10 @@ use Rattle.correction.specs.Leaves.{innovation_at, innovation_of, shifted_at, sh
 use Rattle.correction.specs.Correct.{Head, apply_plan, Given, given, dz_of, weighted_head}
 use Rattle.correction.specs.Flat.{flat_spread_of, flat_head}
 use Rattle.correction.proofs.Entries.{flat_mean_placed, spread_entry, flat_entry, through_plain}
-use Rattle.filter.specs.declared.Filter.{Filter}
+use Rattle.filter.specs.Types.{Filter}
 use Rattle.filter.specs.declared.Stage.{Stage}
 use Rattle.filter.specs.declared.Stage.TheVariants.{Predicting, Correcting}
-use Rattle.filter.specs.declared.Weighted.{Weighted}
+use Rattle.filter.specs.Types.{Weighted}
 use Rattle.filter.specs.Filters.{filter, with_drawn, closed_with}
 use Rattle.filter.specs.Calls.{SetCall, setting, closing, closing_stepped, close_prediction_stepped, close_correction_stepped, close_correction_flat_stepped, open_prediction, open_correction, close_prediction, close_correction, close_correction_flat, weighted_from, flat_from}
 use Rattle.filter.specs.Steps.{step}
@@ -67,7 +68,7 @@ at l i = get_or l i nan
 cell_before : (i k n j : ℕ) → i < k → j < n → i * n + j < k * n
 cell_before i k n j h l = omega (arith, row_before i k n h)
 
--- ---- Root: `square_root` (crates root, root32) is `root_outcome`: `root_of`, or 56 at 0
+-- ---- Root: `square_root` (crate root) is `root_outcome`: `root_of`, or 56 at 0
 
 -- no value of the format is nearer to the exact root
 pub root_nearest : (f : Format) (x : Float) → T (fits f x) → T (rooted x) → Nearest f x (root_of f x)
@@ -80,19 +81,19 @@ root_asked = asked
 pub root_only : (f : Format) (x : Float) (o : Outcome Float) → T (fits f x) → Asked f x o → o ≡ root_outcome f x
 root_only = asked_only
 
--- so of two answers with such an outcome each is the other
-pub root_one : (x : Float) (a b : Root) → T (fits binary64 x) → Asked binary64 x (outcome_of a) → Asked binary64 x (outcome_of b) → a ≡ b
-root_one x a b h k l = one_case a b (asked_only binary64 x (outcome_of a) h k ∙ sym (asked_only binary64 x (outcome_of b) h l))
+-- so of two answers that are, each is the other
+pub root_one : (f : Format) (x : Float) (a b : Outcome Float) → T (fits f x) → Asked f x a → Asked f x b → a ≡ b
+root_one f x a b h k l = asked_only f x a h k ∙ sym (asked_only f x b h l)
 
 module _ (f : Format) where
-  -- ---- Wrap: `wrap` (crate angles) is `wrap_of`; `through_kind` is `through_of`
+  -- ---- Wrap: `wrap` (crate angles) is `wrap_of`; a kind's `through` is `through_of`
 
   -- result and d differ by a whole multiple of 2h, and −h < result ≤ h; a zero has the sign of d
-  pub wrap_is_exact : (d h : Float) → T (fits f d) → T (fits f h) → (wrapped (wrap_of f d h)).refusal.number ≡ 0 → Wraps f d h (wrapped (wrap_of f d h)).value
+  pub wrap_is_exact : (d h w : Float) → T (fits f d) → T (fits f h) → wrap_of f d h ≡ accepted w → Wraps f d h w
   wrap_is_exact = wrap_exact f
 
   -- so does a finite difference passed through a turn that has passed its check
-  pub turn_is_exact : (h d : Float) → T (fits f d) → T (finite d) → T (fits f h) → kind_of f (record { residual = Turn h }) ≡ accepted (record { residual = Turn h }) → Wraps f d h (through_of f (record { residual = Turn h }) d)
+  pub turn_is_exact : (h d : Float) → T (fits f d) → T (finite d) → T (fits f h) → kind_of f (Turn h) ≡ accepted (Turn h) → Wraps f d h (through_of f (Turn h) d)
   turn_is_exact = through_exact f
 
   -- ---- What the four operations give is always a value of the format, and so are a pivot of values of the format, whose root is taken, and a difference that is passed through a turn: so the laws above speak of them

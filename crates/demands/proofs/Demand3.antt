@@ -3,7 +3,7 @@ use mathlib.Core.Path.{◌≡◌}
 use mathlib.Core.Bool.{true}
 use mathlib.Core.List.{List, [], ◌∷◌, ◌++◌}
 use lib.Ieee.{Format}
-use Rattle.filter.specs.declared.Filter.{Filter}
+use Rattle.filter.specs.Types.{Filter}
 use Rattle.filter.specs.Filters.{is_shut, abandoned}
 use Rattle.filter.specs.Calls.{Call, abandon}
 use Rattle.filter.specs.Steps.{step}

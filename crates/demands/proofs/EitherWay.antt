@@ -9,12 +9,13 @@ use borrow.Author.Tests.{eq-eqb}
 use lib.ListN.{length, take, drop}
 use lib.Seq.{paste}
 use lib.Ieee.{Float, Format}
-use Rattle.floats.specs.Refusal.{STAGE, SIZE, NUMBER, verdict, taken}
+use Rattle.floats.specs.declared.Refusal.TheVariants.{Stage as STAGE, Size as SIZE, Number as NUMBER}
+use Rattle.floats.specs.Refusal.{verdict, taken}
 use Rattle.floats.specs.declared.Slice.TheVariants.{Points}
-use Rattle.angles.specs.declared.Kind.{Kind}
+use Rattle.angles.specs.Kinds.{Kind}
 use Rattle.sigma.specs.Draw.{point_numbers}
-use Rattle.filter.specs.declared.Filter.{Filter}
-use Rattle.filter.specs.declared.Answer.{Answer}
+use Rattle.filter.specs.Types.{Filter}
+use Rattle.filter.specs.Types.{Answer}
 use Rattle.filter.specs.Asked.{in_range, within, every}
 use Rattle.filter.specs.Filters.{filter, is_shut, is_stepped, keeping, nothing_kept, with_kept, abandoned}
 use Rattle.filter.specs.Calls.{SheetCall, SetCall, CloseCall, ReadCall, StepCall, SteppedClose, close_correction_stepped, close_correction_flat_stepped, with_list, ask, image_prediction, image_correction, Call, writing, setting, stepping, closing, closing_stepped, abandon, reading, fits, named_by, asked_for}

@@ -12,21 +12,23 @@ use lib.ListN.{length}
 use lib.Ieee.{Float, Format, add}
 use lib.Ieee.Scale.{finite}
 use Rattle.floats.specs.declared.Slice.{Slice}
-use Rattle.floats.specs.Refusal.{Refusal, SHORT, PARAM, bad_lone, verdict, taken, Outcome, refused, accepted, refusal, or, unless, onward}
+use Rattle.floats.specs.declared.Refusal.{Refusal}
+use Rattle.floats.specs.declared.Refusal.TheVariants.{Short as SHORT, Param as PARAM}
+use Rattle.floats.specs.Refusal.{bad_lone, verdict, taken, Outcome, refused, accepted, refusal, or, unless, onward}
 use Rattle.floats.specs.Search.{searched}
 use Rattle.floats.specs.Numbers.{plus_zero, all_finite}
 use Rattle.floats.specs.Fronts.{over}
 use Rattle.root.specs.Definition.{root_of, rooted}
 use Rattle.root.specs.Answer.{root_outcome}
-use Rattle.angles.specs.Wrap.{wrap_of, wrap_step, wrapped, half_turn}
+use Rattle.angles.specs.Wrap.{wrap_of, wrap_step, half_turn}
 use Rattle.angles.specs.Kinds.{is_plain, half_of, passes, kind_of}
-use Rattle.angles.specs.declared.Kind.{Kind}
+use Rattle.angles.specs.Kinds.{Kind}
 use Rattle.matrix.specs.Results.{Result, First, now, later, Plan, run, planned}
 use Rattle.matrix.proofs.Flat.{split}
 use Rattle.floats.proofs.Refusals.{number_above, number_of, named, by_number, verdict_same}
 use Rattle.matrix.proofs.Results.{plan_refused}
-use Rattle.sigma.specs.declared.Params.{Params}
-use Rattle.filter.specs.declared.Filter.{Filter}
+use Rattle.sigma.specs.Weights.{Params}
+use Rattle.filter.specs.Types.{Filter}
 use Rattle.filter.specs.Asked.{Asks, within, long, fit, every, guarded}
 use Rattle.filter.specs.Filters.{seen}
 use Rattle.filter.specs.Calls.{Call, asks, Done, plan}
@@ -329,14 +331,6 @@ module _ (f : Format) where
     unfolding wrap_of
     wrap_taken = two_taken (wrap_step f d h) (all_finite (d ∷ h ∷ [])) (half_turn f h) both_finite (half_turn_lem f h)
 
-    -- what a refused wrap hands back
-    pub wrap_refused : (wrapped (wrap_of f d h)).refusal.number ≢ 0 → (wrapped (wrap_of f d h)).value ≡ plus_zero
-    wrap_refused = go (wrap_of f d h)
-      where
-        go : (o : Outcome Float) → (refusal o).number ≢ 0 → or plus_zero o ≡ plus_zero
-        go (refused r) n = refl
-        go (accepted w) n = absurd (n refl)
-
   module _ (x : Float) where
     -- a root is refused by 56 at 0 just where x isn't finite or is below zero, and by nothing else
     pub root_exactly : (r : Refusal) → (refusal (root_outcome f x) ≡ verdict r) ↔ ((r ≡ bad_lone) × (NotFinite x ⊎ Below x))
@@ -356,11 +350,11 @@ module _ (f : Format) where
   module _ (k : Kind) where
     -- a kind is refused by 56 at 0 just where it is a turn by a number that isn't finite, by 6 just where it isn't that and doesn't pass, and by nothing else
     pub kind_exactly : (r : Refusal)
-        → (refusal (kind_of f k) ≡ verdict r) ↔ (((r ≡ bad_lone) × BadTurn k) ⊎ ((r ≡ PARAM) × (BadTurn k → ⊥) × UnfitTurn f k.residual))
-    kind_exactly r = two_tests k (finite (half_of k)) (passes f k.residual) (bad_turn k) (turn f k.residual) r
+        → (refusal (kind_of f k) ≡ verdict r) ↔ (((r ≡ bad_lone) × BadTurn k) ⊎ ((r ≡ PARAM) × (BadTurn k → ⊥) × UnfitTurn f k))
+    kind_exactly r = two_tests k (finite (half_of k)) (passes f k) (bad_turn k) (turn f k) r
 
-    pub kind_taken : (refusal (kind_of f k) ≡ taken) ↔ ((BadTurn k → ⊥) × (UnfitTurn f k.residual → ⊥))
-    kind_taken = two_taken k (finite (half_of k)) (passes f k.residual) (bad_turn k) (turn f k.residual)
+    pub kind_taken : (refusal (kind_of f k) ≡ taken) ↔ ((BadTurn k → ⊥) × (UnfitTurn f k → ⊥))
+    kind_taken = two_taken k (finite (half_of k)) (passes f k) (bad_turn k) (turn f k)
 
 -- ---- a result or one of the refusals; and what is refused changes nothing and hands out nothing
 

@@ -6,7 +6,7 @@ use mathlib.Core.List.{List, [], ◌∷◌, ◌++◌, map}
 use native.Mathlib.Omega.{arith}
 use lib.ListN.{take}
 use lib.Ieee.{Float, binary64, of_int, to_bits, add, sub, mul, rem, div, neg, lt, le, size, odd}
-use Rattle.floats.specs.Refusal.{Refusal}
+use Rattle.floats.specs.declared.Refusal.{Refusal}
 use Rattle.floats.specs.Numbers.{all_finite, above_zero, zeros}
 use Rattle.floats.specs.Search.{searched, searched_from}
 use Rattle.floats.specs.Fronts.{front}
@@ -19,7 +19,7 @@ use Rattle.matrix.specs.Inverse.{unit_at}
 use Rattle.floats.proofs.Refusals.{number_above, number_of}
 use Rattle.sigma.specs.Weights.{lambda_of, scale_of, w0m_of, w0c_of, wi_of, weights_pass}
 use Rattle.sigma.specs.Draw.{point_at}
-use Rattle.filter.specs.declared.Filter.{Filter}
+use Rattle.filter.specs.Types.{Filter}
 use Rattle.filter.specs.Asked.{in_range, guarded}
 use Rattle.filter.specs.Filters.{is_correcting}
 use Rattle.filter.specs.Calls.{Call, setting, closing, reading, open_prediction, open_correction, close_prediction, read_stale, set_x, abandon}

@@ -16,8 +16,8 @@ use Rattle.floats.proofs.Refusals.{number_above, number_of}
 use Rattle.pieces.specs.Bytes.{kind_fits}
 use Rattle.matrix.specs.Folds.{places_of}
 use Rattle.correction.specs.Correct.{Head}
-use Rattle.sigma.specs.declared.Params.{Params}
-use Rattle.filter.specs.declared.Filter.{Filter}
+use Rattle.sigma.specs.Weights.{Params}
+use Rattle.filter.specs.Types.{Filter}
 use Rattle.filter.specs.Asked.{every}
 use Rattle.filter.specs.Filters.{x_set, p_set, closed_with}
 use Rattle.filter.specs.Calls.{Call, writing, setting, stepping, closing, closing_stepped, abandon, reading, set_q, set_params, set_kind, SetCall, set_x, set_p, open_prediction, open_correction, open_prediction_stepped, open_correction_stepped, close_prediction, close_correction, close_correction_flat, close_prediction_stepped, close_correction_stepped, close_correction_flat_stepped, values_of, weighted_from, flat_from}

@@ -16,7 +16,7 @@ use Rattle.floats.specs.Numbers.{zeros, all_finite, above_zero}
 use Rattle.floats.proofs.Finite.{all_zeros}
 use Rattle.angles.specs.Kinds.{plain, half_of}
 use Rattle.matrix.specs.Results.{mapped}
-use Rattle.sigma.specs.declared.Params.{Params}
+use Rattle.sigma.specs.Weights.{Params}
 use Rattle.sigma.specs.Weights.{scale_of, w0m_of, w0c_of, wi_of, weight_at, weights_of, weights_pass}
 use Rattle.sigma.specs.Draw.{point_numbers, draw_of}
 use Rattle.sigma.specs.Predict.{Moment}
@@ -24,7 +24,7 @@ use Rattle.sigma.proofs.Entries.{weights_placed}
 use Rattle.sigma.proofs.Accepted.{placed_in_use, MomentInUse, draw_accepted, predict_accepted}
 use Rattle.correction.specs.Correct.{Head, apply_plan}
 use Rattle.correction.proofs.Accepted.{apply_accepted}
-use Rattle.filter.specs.declared.Filter.{Filter}
+use Rattle.filter.specs.Types.{Filter}
 use Rattle.filter.specs.declared.Stage.{Stage}
 use Rattle.filter.specs.declared.Stage.TheVariants.{CorrectingStepped}
 use Rattle.filter.specs.Asked.{Asks, fit, by_params, by_kind, in_range, within, every}

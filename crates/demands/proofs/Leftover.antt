@@ -7,9 +7,9 @@ use lib.Ieee.{Format}
 use Rattle.floats.specs.Numbers.{all_finite}
 use Rattle.floats.specs.Refusal.{Outcome, refused, accepted}
 use Rattle.matrix.specs.Results.{run}
-use Rattle.filter.specs.declared.Sheet.{Sheet}
-use Rattle.filter.specs.declared.Track.{Track}
-use Rattle.filter.specs.declared.Filter.{Filter}
+use Rattle.filter.specs.Types.{Sheet}
+use Rattle.filter.specs.Types.{Track}
+use Rattle.filter.specs.Types.{Filter}
 use Rattle.filter.specs.declared.Stage.{Stage}
 use Rattle.filter.specs.declared.Stage.TheVariants.{Shut, Predicting, Correcting, PredictingStepped, CorrectingStepped}
 use Rattle.filter.specs.Asked.{within, in_range}

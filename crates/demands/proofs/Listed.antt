@@ -6,13 +6,13 @@ use mathlib.Core.List.{List, []}
 use lib.Ieee.{Float, Format}
 use Rattle.floats.specs.Numbers.{zeros}
 use Rattle.floats.specs.Fronts.{front}
-use Rattle.angles.specs.declared.Kind.{Kind}
+use Rattle.angles.specs.Kinds.{Kind}
 use Rattle.matrix.specs.Results.{Plan, finish, planned}
 use Rattle.matrix.proofs.Mapped.{planned_mapped}
 use Rattle.sigma.specs.Weights.{scale_of, w0m_of, weights_of}
 use Rattle.sigma.specs.Draw.{point_numbers, draw_plan}
 use Rattle.correction.specs.Correct.{apply_plan}
-use Rattle.filter.specs.declared.Filter.{Filter}
+use Rattle.filter.specs.Types.{Filter}
 use Rattle.filter.specs.Filters.{opened_prediction, opened_correction, opened_prediction_stepped, opened_correction_stepped}
 use Rattle.filter.specs.Calls.{setting, closing, open_prediction, open_correction, open_prediction_stepped, open_correction_stepped, close_prediction, close_correction, close_correction_flat, Done, opened, opened_stepped, closed, draws, plan, weighted_from, flat_from}
 use Rattle.filter.proofs.Closing.{predicting}

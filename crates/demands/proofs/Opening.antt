@@ -8,7 +8,9 @@ use native.Mathlib.Omega.{arith}
 use lib.Dec.{leb}
 use lib.ListN.{length, take}
 use lib.Ieee.{Float, Format}
-use Rattle.floats.specs.Refusal.{Refusal, SIZE, SHORT, STAGE, PIVOT, RANGE, Outcome, refused, accepted, unless, onward}
+use Rattle.floats.specs.declared.Refusal.{Refusal}
+use Rattle.floats.specs.declared.Refusal.TheVariants.{Size as SIZE, Short as SHORT, Stage as STAGE, Pivot as PIVOT, Range as RANGE}
+use Rattle.floats.specs.Refusal.{Outcome, refused, accepted, unless, onward}
 use Rattle.floats.specs.Numbers.{all_finite, above_zero}
 use Rattle.floats.specs.Search.{searched}
 use Rattle.floats.proofs.Refusals.{slice_above}
@@ -20,7 +22,7 @@ use Rattle.matrix.proofs.FactorLaws.{Stopped, at_pivot, at_entry, is_stopped}
 use Rattle.matrix.proofs.Mapped.{run_mapped}
 use Rattle.sigma.specs.Weights.{scale_of, weights_of, weights_pass}
 use Rattle.sigma.specs.Draw.{point_numbers, points_of, draw_plan}
-use Rattle.filter.specs.declared.Filter.{Filter}
+use Rattle.filter.specs.Types.{Filter}
 use Rattle.filter.specs.Asked.{in_range}
 use Rattle.filter.specs.Filters.{is_shut, seen, opened_prediction, opened_correction, opened_prediction_stepped, opened_correction_stepped}
 use Rattle.filter.specs.Calls.{Call, Done, opened, opened_stepped, draws, draws_current}

@@ -7,15 +7,17 @@ use mathlib.Core.List.{List, []}
 use lib.ListN.{take}
 use mathlib.Core.Logic.{◌↔◌, ◌≢◌, ◌⊎◌, inl, inr, ⊎_elim}
 use lib.Ieee.{Float, Format}
-use Rattle.floats.specs.Refusal.{Refusal, SIZE, STAGE, verdict, taken, Outcome, refused, accepted, refusal}
+use Rattle.floats.specs.declared.Refusal.{Refusal}
+use Rattle.floats.specs.declared.Refusal.TheVariants.{Size as SIZE, Stage as STAGE}
+use Rattle.floats.specs.Refusal.{verdict, taken, Outcome, refused, accepted, refusal}
 use Rattle.floats.proofs.Refusals.{number_above, number_of}
 use Rattle.matrix.specs.Results.{finish, planned, run}
-use Rattle.sigma.specs.declared.Params.{Params}
+use Rattle.sigma.specs.Weights.{Params}
 use Rattle.filter.specs.Filters.{is_shut, seen, writes, written, marked}
 use Rattle.filter.specs.Calls.{SheetCall, set_q, set_params, set_kind, ReadCall, read_q, read_params, Call, writing, setting, stepping, closing, closing_stepped, abandon, reading, fits, Done, writing_of, plan}
 use Rattle.filter.specs.Steps.{Reply, Stepped, stepped, step, params_read}
 use Rattle.filter.specs.New.{empty}
-use Rattle.filter.specs.declared.Track.{Track}
+use Rattle.filter.specs.Types.{Track}
 use Rattle.pairs.specs.declared.Pair.{Pair}
 use Rattle.pairs.specs.declared.Side.{Side}
 use Rattle.pairs.specs.declared.Side.TheVariants.{First, Second}

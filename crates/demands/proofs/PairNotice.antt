@@ -6,9 +6,10 @@ use mathlib.Core.Bool.{Bool, true, false, ◌||◌, cond, and-false}
 use mathlib.Core.List.{List, [], ◌∷◌, map}
 use mathlib.Core.Logic.{◌≢◌}
 use lib.Ieee.{Format}
-use Rattle.floats.specs.Refusal.{STAGE, refused}
-use Rattle.filter.specs.declared.Track.{Track}
-use Rattle.filter.specs.declared.Filter.{Filter}
+use Rattle.floats.specs.declared.Refusal.TheVariants.{Stage as STAGE}
+use Rattle.floats.specs.Refusal.{refused}
+use Rattle.filter.specs.Types.{Track}
+use Rattle.filter.specs.Types.{Filter}
 use Rattle.filter.specs.Filters.{filter, is_shut, written, marked}
 use Rattle.filter.specs.Calls.{SheetCall, set_q, set_params, set_kind, Call, writing, setting, stepping, closing, closing_stepped, abandon, reading, writing_of}
 use Rattle.filter.specs.Steps.{Stepped, stepped, step}

@@ -5,8 +5,9 @@ use mathlib.Core.Path.{◌≡◌, refl, sym, ap, ap₂, ◌∙◌}
 use mathlib.Core.Bool.{Bool, true, false, cond}
 use mathlib.Core.List.{List, [], ◌∷◌, ◌++◌, map}
 use lib.Ieee.{Format}
-use Rattle.floats.specs.Refusal.{STAGE, refused}
-use Rattle.filter.specs.declared.Filter.{Filter}
+use Rattle.floats.specs.declared.Refusal.TheVariants.{Stage as STAGE}
+use Rattle.floats.specs.Refusal.{refused}
+use Rattle.filter.specs.Types.{Filter}
 use Rattle.filter.specs.Calls.{Call, writing, setting, stepping, closing, closing_stepped, abandon, reading}
 use Rattle.filter.specs.Steps.{Reply, Stepped, stepped, step}
 use Rattle.pairs.specs.declared.Pair.{Pair}

@@ -8,11 +8,12 @@ use mathlib.Core.Logic.{⊎_elim}
 use lib.Dec.{leb}
 use lib.ListN.{length, take}
 use lib.Ieee.{Float, Format}
-use Rattle.floats.specs.Refusal.{STAGE, taken, Outcome, refused, accepted, refusal, or}
+use Rattle.floats.specs.declared.Refusal.TheVariants.{Stage as STAGE}
+use Rattle.floats.specs.Refusal.{taken, Outcome, refused, accepted, refusal, or}
 use Rattle.floats.specs.Numbers.{plus_zero, all_finite}
 use Rattle.floats.proofs.Refusals.{number_above}
-use Rattle.sigma.specs.declared.Params.{Params}
-use Rattle.filter.specs.declared.Filter.{Filter}
+use Rattle.sigma.specs.Weights.{Params}
+use Rattle.filter.specs.Types.{Filter}
 use Rattle.filter.specs.Asked.{by_params, in_range, fit, every}
 use Rattle.filter.specs.Filters.{filter}
 use Rattle.filter.specs.Calls.{Call, values_of}

@@ -4,8 +4,9 @@ use mathlib.Core.Bool.{Bool, true, false, cond}
 use mathlib.Core.Logic.{◌↔◌, ◌≢◌}
 use native.Mathlib.Omega.{arith}
 use lib.Ieee.{Format}
-use Rattle.floats.specs.Refusal.{STAGE, Outcome, refused, accepted}
-use Rattle.filter.specs.declared.Filter.{Filter}
+use Rattle.floats.specs.declared.Refusal.TheVariants.{Stage as STAGE}
+use Rattle.floats.specs.Refusal.{Outcome, refused, accepted}
+use Rattle.filter.specs.Types.{Filter}
 use Rattle.filter.specs.Asked.{guarded}
 use Rattle.filter.specs.Filters.{filter, is_shut, Change, changed}
 use Rattle.filter.specs.Calls.{SheetCall, Call, writing, setting, stepping, closing, closing_stepped, abandon, reading, Done}

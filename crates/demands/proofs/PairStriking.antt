@@ -4,8 +4,9 @@ use mathlib.Core.Path.{◌≡◌, refl, sym, ap, ap₂, ◌∙◌}
 use mathlib.Core.Bool.{Bool, true, false, not, ◌&&◌, ◌||◌, cond}
 use mathlib.Core.List.{List, [], ◌∷◌}
 use lib.Ieee.{Format}
-use Rattle.floats.specs.Refusal.{STAGE, refused}
-use Rattle.filter.specs.declared.Filter.{Filter}
+use Rattle.floats.specs.declared.Refusal.TheVariants.{Stage as STAGE}
+use Rattle.floats.specs.Refusal.{refused}
+use Rattle.filter.specs.Types.{Filter}
 use Rattle.filter.specs.Asked.{in_range}
 use Rattle.filter.specs.Filters.{filter, is_shut, seen, abandoned}
 use Rattle.filter.specs.Calls.{SetCall, Call, setting, abandon}

@@ -7,13 +7,15 @@ use mathlib.Core.Logic.{◌↔◌, ◌≢◌, ◌⊎◌}
 use lib.ListN.{take}
 use lib.Ieee.{Float, Format}
 use Rattle.floats.specs.declared.Slice.TheVariants.{State, Covariance, Noise, Lone}
-use Rattle.floats.specs.Refusal.{Refusal, SIZE, STAGE, verdict, taken, refused}
+use Rattle.floats.specs.declared.Refusal.{Refusal}
+use Rattle.floats.specs.declared.Refusal.TheVariants.{Size as SIZE, Stage as STAGE}
+use Rattle.floats.specs.Refusal.{verdict, taken, refused}
 use Rattle.floats.specs.Numbers.{plus_zero, all_finite}
 use Rattle.floats.specs.Fronts.{over}
 use Rattle.matrix.specs.Results.{planned}
-use Rattle.sigma.specs.declared.Params.{Params}
-use Rattle.filter.specs.declared.Track.{Track}
-use Rattle.filter.specs.declared.Filter.{Filter}
+use Rattle.sigma.specs.Weights.{Params}
+use Rattle.filter.specs.Types.{Track}
+use Rattle.filter.specs.Types.{Filter}
 use Rattle.filter.specs.Asked.{of_numbers, by_params}
 use Rattle.filter.specs.Filters.{is_shut, seen, written, marked, abandoned}
 use Rattle.filter.specs.Calls.{SheetCall, SetCall, read_q, read_params, Call, writing, setting, abandon, reading, writing_of, plan}

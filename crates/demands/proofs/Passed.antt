@@ -4,7 +4,9 @@ use mathlib.Core.Bool.{Bool, true, false, not, ◌&&◌, cond}
 use mathlib.Core.List.{List, [], ◌∷◌}
 use borrow.Author.Tests.{not-true}
 use lib.Ieee.{Format}
-use Rattle.floats.specs.Refusal.{Refusal, SIZE, SHORT, STAGE, STALE, PARAM, KIND, FRESH, RECORD, Outcome, refused, accepted, unless, onward}
+use Rattle.floats.specs.declared.Refusal.{Refusal}
+use Rattle.floats.specs.declared.Refusal.TheVariants.{Size as SIZE, Short as SHORT, Stage as STAGE, Stale as STALE, Param as PARAM, Kind as KIND, Fresh as FRESH, Record as RECORD}
+use Rattle.floats.specs.Refusal.{Outcome, refused, accepted, unless, onward}
 use Rattle.angles.specs.Kinds.{is_plain}
 use Rattle.floats.specs.Numbers.{all_finite}
 use Rattle.floats.specs.Search.{Input, searched}

@@ -7,9 +7,11 @@ use mathlib.Core.Logic.{◌↔◌, ◌⊎◌, inr, ⊎_elim}
 use native.Mathlib.Omega.{arith}
 use lib.Ieee.{Float, Format}
 use Rattle.floats.specs.declared.Slice.{Slice}
-use Rattle.floats.specs.Refusal.{Refusal, NUMBER, RANGE, PIVOT, INNOV, verdict}
+use Rattle.floats.specs.declared.Refusal.{Refusal}
+use Rattle.floats.specs.declared.Refusal.TheVariants.{Number as NUMBER, Range as RANGE, Pivot as PIVOT, Innovation as INNOV}
+use Rattle.floats.specs.Refusal.{verdict}
 use Rattle.floats.proofs.Refusals.{number, named, slice_above}
-use Rattle.angles.specs.declared.Kind.{Kind}
+use Rattle.angles.specs.Kinds.{Kind}
 use Rattle.matrix.specs.Results.{Result, refusal_of, results, planned}
 use Rattle.matrix.specs.Factor.{factor_of}
 use Rattle.matrix.specs.Factored.{BadPivot}
@@ -17,7 +19,7 @@ use Rattle.matrix.proofs.Results.{work_refused}
 use Rattle.matrix.proofs.FactorRows.{row_exactly}
 use Rattle.matrix.proofs.Flat.{split}
 use Rattle.correction.specs.Correct.{Head}
-use Rattle.filter.specs.declared.Filter.{Filter}
+use Rattle.filter.specs.Types.{Filter}
 use Rattle.filter.specs.Asked.{Size, Asks}
 use Rattle.filter.specs.Filters.{seen}
 use Rattle.filter.specs.Calls.{CloseCall, Call, setting, closing, open_prediction, open_correction, close_correction, close_correction_flat, asks, plan, weighted_from, flat_from}

@@ -10,13 +10,15 @@ use lib.Ieee.{Float, Format}
 use lib.Ieee.Scale.{finite}
 use Rattle.floats.specs.declared.Slice.{Slice}
 use Rattle.floats.specs.declared.Verdict.{Verdict}
-use Rattle.floats.specs.Refusal.{Refusal, SIZE, SHORT, STAGE, STALE, NUMBER, PARAM, PIVOT, INNOV, RANGE, KIND, FRESH, RECORD, verdict, taken, Outcome, refused, accepted, refusal, unless, onward, nothing}
+use Rattle.floats.specs.declared.Refusal.{Refusal}
+use Rattle.floats.specs.declared.Refusal.TheVariants.{Size as SIZE, Short as SHORT, Stage as STAGE, Stale as STALE, Number as NUMBER, Param as PARAM, Pivot as PIVOT, Innovation as INNOV, Range as RANGE, Kind as KIND, Fresh as FRESH, Record as RECORD}
+use Rattle.floats.specs.Refusal.{verdict, taken, Outcome, refused, accepted, refusal, unless, onward, nothing}
 use Rattle.floats.specs.Numbers.{plus_zero, all_finite}
 use Rattle.floats.specs.Search.{Input, searched_from, searched}
 use Rattle.floats.proofs.Refusals.{refused_never}
 use Rattle.floats.proofs.Search.{none_bad, all_good}
 use Rattle.angles.specs.Kinds.{plain, is_plain, half_of}
-use Rattle.angles.specs.declared.Kind.{Kind}
+use Rattle.angles.specs.Kinds.{Kind}
 use Rattle.filter.specs.Asked.{Asks, within, long, fit, every, guarded}
 use Rattle.filter.specs.Calls.{halves}
 use Rattle.demands.specs.Rows.{Some, here, there, NotFinite, FirstIn, FirstBad, found, further, BadTurn, FirstBadTurn, Placed}

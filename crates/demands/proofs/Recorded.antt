@@ -15,13 +15,13 @@ use Rattle.floats.specs.Numbers.{zeros, all_finite}
 use Rattle.floats.specs.Fronts.{over}
 use Rattle.floats.proofs.Refusals.{number_of, gave_zero}
 use Rattle.angles.specs.Kinds.{plain}
-use Rattle.angles.specs.declared.Kind.{Kind}
+use Rattle.angles.specs.Kinds.{Kind}
 use Rattle.pieces.specs.Bytes.{AreBytes, word_of, number_at, kind_at, formed, read_each, all_true}
 use Rattle.matrix.specs.Results.{run}
-use Rattle.sigma.specs.declared.Params.{Params}
-use Rattle.filter.specs.declared.Track.{Track}
-use Rattle.filter.specs.declared.Filter.{Filter}
-use Rattle.filter.specs.declared.Answer.{Answer}
+use Rattle.sigma.specs.Weights.{Params}
+use Rattle.filter.specs.Types.{Track}
+use Rattle.filter.specs.Types.{Filter}
+use Rattle.filter.specs.Types.{Answer}
 use Rattle.filter.specs.Asked.{of_bytes, Param, by_params, within, long, every, guarded}
 use Rattle.filter.specs.Filters.{is_shut, filter, sheet, seen}
 use Rattle.filter.specs.Records.{numbers_of, bytes_of, record_length, numbers}

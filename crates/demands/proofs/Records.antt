@@ -9,13 +9,14 @@ use native.Mathlib.Omega.{arith}
 use lib.ListN.{length, take, drop, get_or}
 use lib.Ieee.{Format, binary64}
 use Rattle.floats.specs.declared.Slice.TheVariants.{State, Covariance, Noise, Lone}
-use Rattle.floats.specs.Refusal.{FRESH, RECORD, verdict, taken}
+use Rattle.floats.specs.declared.Refusal.TheVariants.{Fresh as FRESH, Record as RECORD}
+use Rattle.floats.specs.Refusal.{verdict, taken}
 use Rattle.floats.specs.Numbers.{all_finite}
 use Rattle.floats.specs.Fronts.{over}
 use Rattle.floats.proofs.Refusals.{number_of}
 use Rattle.pieces.specs.Bytes.{AreBytes, number_at, kind_at, read_each}
-use Rattle.sigma.specs.declared.Params.{Params}
-use Rattle.filter.specs.declared.Filter.{Filter}
+use Rattle.sigma.specs.Weights.{Params}
+use Rattle.filter.specs.Types.{Filter}
 use Rattle.filter.specs.Asked.{of_bytes, by_params}
 use Rattle.filter.specs.Filters.{is_shut}
 use Rattle.filter.specs.Records.{numbers_of, bytes_of}

@@ -11,18 +11,18 @@ use lib.Seq.{length-take-le, take_at, drop_at, take-add, drop-drop, get_or-drop}
 use lib.Ieee.{Float, Format, binary64, fits, to_bits}
 use lib.Ieee.Bits.{of_bits-fits, is_true}
 use lib.Ieee.Scale.{finite}
-use Rattle.floats.specs.Refusal.{SHORT, Outcome, accepted, or}
+use Rattle.floats.specs.declared.Refusal.TheVariants.{Short as SHORT}
+use Rattle.floats.specs.Refusal.{Outcome, accepted, or}
 use Rattle.floats.specs.Numbers.{plus_zero, zeros, all_finite}
 use Rattle.floats.specs.Fronts.{over}
 use Rattle.floats.proofs.Refusals.{passed, refused_never}
 use Rattle.angles.specs.Kinds.{plain, half_of}
-use Rattle.angles.specs.declared.Residual.TheVariants.{Plain, Turn}
-use Rattle.angles.specs.declared.Residual.{Residual}
-use Rattle.angles.specs.declared.Kind.{Kind}
-use Rattle.pieces.specs.Bytes.{AreBytes, little_endian, word_of, written, read_each, all_true, number_bytes, number_at, kind_bytes, kind_at, formed, residual_fits, kind_fits}
+use Rattle.angles.specs.declared.Kind.TheVariants.{Plain, Turn}
+use Rattle.angles.specs.Kinds.{Kind}
+use Rattle.pieces.specs.Bytes.{AreBytes, little_endian, word_of, written, read_each, all_true, number_bytes, number_at, kind_bytes, kind_at, formed, kind_fits}
 use Rattle.pieces.proofs.Laws.{bytes_drop, length_read, length_written, read_written, read_all, written_read}
 use Rattle.pieces.proofs.Back.{length_number, length_kind, number_back, number_again, kind_back, kind_formed, sound, kind_again, each_finite}
-use Rattle.filter.specs.declared.Filter.{Filter}
+use Rattle.filter.specs.Types.{Filter}
 use Rattle.filter.specs.Asked.{by_params, by_kind, in_range, fit, every, guarded}
 use Rattle.filter.specs.Records.{numbers_of, bytes_of, numbers, record_length}
 use Rattle.filter.specs.Calls.{halves, as_kinds, values_of}
@@ -200,7 +200,7 @@ module _ (f : Format) (s : Filter) (h : Sound f s) where
 
 -- ---- READ, THEN SAVED
 
-accepted_same : {A : Type 0} {a b : A} → accepted a ≡ accepted b → a ≡ b
+accepted_same : {A : Type 0} {a b : A} → ◌≡◌ {A = Outcome A} (accepted a) (accepted b) → a ≡ b
 accepted_same {A} {a} {b} e = ap (or a) e
 
 first_three : (b : List ℕ) → 3 ≤ length b → take 3 b ≡ get_or b 0 0 ∷ get_or b 1 0 ∷ get_or b 2 0 ∷ []
@@ -303,7 +303,7 @@ kind_fits_lem : (b : List ℕ) → kind_fits (kind_at b) ≡ true
 unfolding kind_at
 kind_fits_lem b = go (eqb (get_or b 0 0) 0)
   where
-    go : (t : Bool) → residual_fits (cond t Plain (Turn (number_at (drop 1 b)))) ≡ true
+    go : (t : Bool) → kind_fits (cond t Plain (Turn (number_at (drop 1 b)))) ≡ true
     go true = refl
     go false = number_fits (drop 1 b)
 
@@ -362,10 +362,10 @@ number_bytes_lem : (v : Float) → AreBytes (number_bytes v)
 unfolding number_bytes
 number_bytes_lem v = little_bytes 8 (to_bits binary64 v)
 
-residual_bytes : (r : Residual) → AreBytes (kind_bytes (record { residual = r }))
+kind_bytes_lem : (k : Kind) → AreBytes (kind_bytes k)
 unfolding kind_bytes
-residual_bytes Plain = bytes_one 0 (little_endian 8 0) (omega arith) (little_bytes 8 0)
-residual_bytes (Turn h) = bytes_one 1 (number_bytes h) (omega arith) (number_bytes_lem h)
+kind_bytes_lem Plain = bytes_one 0 (little_endian 8 0) (omega arith) (little_bytes 8 0)
+kind_bytes_lem (Turn h) = bytes_one 1 (number_bytes h) (omega arith) (number_bytes_lem h)
 
 written_bytes : {A : Type 0} (to : A → List ℕ) → ((a : A) → AreBytes (to a)) → (l : List A) → AreBytes (written to l)
 unfolding written
@@ -378,4 +378,4 @@ record_bytes s h =
     let k = written kind_bytes (take s.sheet.n s.sheet.kinds) in
     let l = written number_bytes (numbers_of s) ++ k in
     bytes_one 87 (80 ∷ s.sheet.n ∷ l) (omega arith) (bytes_one 80 (s.sheet.n ∷ l) (omega arith) (bytes_one s.sheet.n l (omega arith)
-    (bytes_both (written number_bytes (numbers_of s)) k (written_bytes number_bytes number_bytes_lem (numbers_of s)) (written_bytes kind_bytes (λ k. residual_bytes k.residual) (take s.sheet.n s.sheet.kinds)))))
+    (bytes_both (written number_bytes (numbers_of s)) k (written_bytes number_bytes number_bytes_lem (numbers_of s)) (written_bytes kind_bytes kind_bytes_lem (take s.sheet.n s.sheet.kinds)))))

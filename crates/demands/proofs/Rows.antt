@@ -15,10 +15,9 @@ use lib.Ieee.Fits.{up_pos}
 use Rattle.floats.specs.Numbers.{plus_zero, all_finite, above_zero}
 use Rattle.root.specs.Definition.{rooted}
 use Rattle.angles.specs.Wrap.{half_turn}
-use Rattle.angles.specs.Kinds.{no_turn, is_plain, half, half_of, passes}
-use Rattle.angles.specs.declared.Kind.{Kind}
-use Rattle.angles.specs.declared.Residual.{Residual}
-use Rattle.angles.specs.declared.Residual.TheVariants.{Plain, Turn}
+use Rattle.angles.specs.Kinds.{is_plain, half_of, passes}
+use Rattle.angles.specs.Kinds.{Kind}
+use Rattle.angles.specs.declared.Kind.TheVariants.{Plain, Turn}
 use Rattle.matrix.specs.Results.{Result, numbers, pivot, rooting, good}
 use Rattle.sigma.specs.Weights.{scale_of, w0m_of, w0c_of, wi_of, weights_pass}
 use Rattle.filter.specs.Asked.{Size, Lent, of_numbers, of_bytes, Param, by_params, by_kind, in_range, within, long, fit, every}
@@ -97,11 +96,8 @@ all_finite_lem [] = always none
 all_finite_lem (x ∷ l) = reworded joined parted (either (itself (finite x)) (all_finite_lem l))
 
 pub is_turn : (k : Kind) → Means (is_plain k) (IsTurn k)
-is_turn k = go k.residual
-  where
-    go : (r : Residual) → Means (no_turn r) ((h : Float) × (r ≡ Turn h))
-    go Plain = always (λ w. two_ways refl (ap no_turn w.1))
-    go (Turn h) = record { fails = λ e. (h, refl); passes = λ e w. two_ways e refl }
+is_turn Plain = always (λ w. two_ways refl (ap is_plain w.1))
+is_turn (Turn h) = record { fails = λ e. (h, refl); passes = λ e w. two_ways e refl }
 
 pub is_above : (x : Float) → Means (above_zero x) (NotFinite x ⊎ NotAbove x)
 unfolding above_zero
@@ -112,13 +108,10 @@ unfolding half_turn
 half_turn_lem f h = either (itself (lt plus_zero h)) (itself (finite (add f h h)))
 
 pub bad_turn : (k : Kind) → Means (finite (half_of k)) (BadTurn k)
-bad_turn k = go k.residual
-  where
-    go : (r : Residual) → Means (finite (half r)) ((h : Float) × (r ≡ Turn h) × NotFinite h)
-    go Plain = always (λ w. two_ways refl (ap no_turn w.1))
-    go (Turn h) = reworded (λ b. (h, refl, b)) (λ w. let e : half (Turn h) ≡ half (Turn w.0) = ap half w.1 in rw e w.2) (itself (finite h))
+bad_turn Plain = always (λ w. two_ways refl (ap is_plain w.1))
+bad_turn (Turn h) = reworded (λ b. (h, refl, b)) (λ w. let e : half_of (Turn h) ≡ half_of (Turn w.0) = ap half_of w.1 in rw e w.2) (itself (finite h))
 
-pub turn : (f : Format) (r : Residual) → Means (passes f r) (UnfitTurn f r)
+pub turn : (f : Format) (k : Kind) → Means (passes f k) (UnfitTurn f k)
 turn f Plain = always (λ n. n)
 turn f (Turn h) = half_turn_lem f h
 
@@ -129,7 +122,7 @@ fitting f (by_params n p) = either (is_above (scale_of f n p)) (either (itself (
     last : (b : Bool) → Means (b && true) (b ≡ false)
     last true = always (λ e. two_ways refl e)
     last false = itself false
-fitting f (by_kind k) = turn f k.residual
+fitting f (by_kind k) = turn f k
 
 -- ---- the results
 

@@ -9,10 +9,11 @@ use borrow.Author.Tests.{eq-eqb, ne_eqb, eqb-true, eqb-false, leb-true, le-leb}
 use lib.Dec.{eqb}
 use lib.ListN.{length, take, drop, get_or}
 use lib.Ieee.{Format}
-use Rattle.floats.specs.Refusal.{FRESH, RECORD, verdict, taken}
+use Rattle.floats.specs.declared.Refusal.TheVariants.{Fresh as FRESH, Record as RECORD}
+use Rattle.floats.specs.Refusal.{verdict, taken}
 use Rattle.floats.proofs.Refusals.{number, slice_above}
 use Rattle.pieces.specs.Bytes.{word_of, read_each, all_true, formed}
-use Rattle.filter.specs.declared.Filter.{Filter}
+use Rattle.filter.specs.Types.{Filter}
 use Rattle.filter.specs.Asked.{within, long, every}
 use Rattle.filter.specs.Filters.{seen}
 use Rattle.filter.specs.Records.{bytes_of}

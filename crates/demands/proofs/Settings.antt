@@ -7,14 +7,14 @@ use lib.ListN.{set}
 use lib.Ieee.{Float, Format}
 use Rattle.floats.specs.Numbers.{zeros}
 use Rattle.floats.specs.Fronts.{front}
-use Rattle.angles.specs.declared.Kind.{Kind}
-use Rattle.sigma.specs.declared.Params.{Params}
+use Rattle.angles.specs.Kinds.{Kind}
+use Rattle.sigma.specs.Weights.{Params}
 use Rattle.sigma.specs.Weights.{w0m_of, weights_of}
 use Rattle.correction.specs.Leaves.{widened}
 use Rattle.correction.specs.Correct.{Head, given, weighted_head}
 use Rattle.filter.specs.declared.Stage.{Stage}
 use Rattle.filter.specs.declared.Stage.TheVariants.{Shut, Predicting, Correcting, PredictingStepped, CorrectingStepped}
-use Rattle.filter.specs.declared.Filter.{Filter}
+use Rattle.filter.specs.Types.{Filter}
 use Rattle.filter.specs.Filters.{sheet, track, filter, is_shut, is_correcting, is_correcting_stepped, is_correction, closed_with}
 use Rattle.filter.specs.Calls.{SheetCall, set_q, set_params, set_kind, SetCall, set_x, set_p, Call, writing, setting, closing, closing_stepped, close_correction, close_correction_stepped, measurement, weighted_from}
 use Rattle.filter.specs.Steps.{step}

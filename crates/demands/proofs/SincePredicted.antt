@@ -8,8 +8,8 @@ use native.Mathlib.Omega.{arith}
 use lib.Ieee.{Float, Format}
 use Rattle.floats.specs.Refusal.{or}
 use Rattle.floats.proofs.Refusals.{number_above, number_of}
-use Rattle.sigma.specs.declared.Params.{Params}
-use Rattle.filter.specs.declared.Filter.{Filter}
+use Rattle.sigma.specs.Weights.{Params}
+use Rattle.filter.specs.Types.{Filter}
 use Rattle.filter.specs.declared.Stage.TheVariants.{Shut}
 use Rattle.filter.specs.Filters.{sheet, track, filter, nothing_kept}
 use Rattle.filter.specs.Calls.{set_x, set_p, set_q, set_params, set_kind, open_prediction, open_correction, open_prediction_stepped, open_correction_stepped, close_prediction, close_correction, close_correction_flat, close_prediction_stepped, close_correction_stepped, close_correction_flat_stepped, Call, writing, setting, stepping, closing, closing_stepped, abandon, reading}

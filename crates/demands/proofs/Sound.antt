@@ -10,22 +10,24 @@ use lib.ListN.{length, take, drop, get_or, replicate, length-append, length-drop
 use lib.Seq.{length-take-le, drop_at}
 use lib.Ieee.{Float, Format}
 use lib.Ieee.Scale.{finite}
-use Rattle.floats.specs.Refusal.{Refusal, SHORT, Outcome, refused, accepted, or, unless}
+use Rattle.floats.specs.declared.Refusal.{Refusal}
+use Rattle.floats.specs.declared.Refusal.TheVariants.{Short as SHORT}
+use Rattle.floats.specs.Refusal.{Outcome, refused, accepted, or, unless}
 use Rattle.floats.specs.Numbers.{zeros, all_finite}
 use Rattle.floats.specs.Fronts.{over}
 use Rattle.angles.specs.Kinds.{plain, half_of}
-use Rattle.angles.specs.declared.Kind.{Kind}
+use Rattle.angles.specs.Kinds.{Kind}
 use Rattle.pieces.specs.Bytes.{number_at, kind_at}
 use Rattle.pieces.proofs.Laws.{length_read}
 use Rattle.matrix.specs.Results.{run}
-use Rattle.sigma.specs.declared.Params.{Params}
+use Rattle.sigma.specs.Weights.{Params}
 use Rattle.sigma.specs.Weights.{weights_pass}
 use Rattle.sigma.specs.Draw.{point_numbers}
 use Rattle.filter.specs.declared.Stage.{Stage}
 use Rattle.filter.specs.declared.Stage.TheVariants.{PredictingStepped, CorrectingStepped}
-use Rattle.filter.specs.declared.Weighted.{Weighted}
-use Rattle.filter.specs.declared.Sheet.{Sheet}
-use Rattle.filter.specs.declared.Filter.{Filter}
+use Rattle.filter.specs.Types.{Weighted}
+use Rattle.filter.specs.Types.{Sheet}
+use Rattle.filter.specs.Types.{Filter}
 use Rattle.filter.specs.Asked.{by_params, by_kind, fit, every, guarded}
 use Rattle.filter.specs.Filters.{filter, is_shut, is_stepped, seen, Writing, q_set, params_set, kinds_set, Setting, x_set, p_set, opened_prediction, opened_correction, opened_prediction_stepped, opened_correction_stepped, Change, writes, sets, closes, keeps, abandons, reads, with_drawn, changed}
 use Rattle.filter.specs.Calls.{Call, halves, values_of, as_kinds, asks, Done, plan}

@@ -11,19 +11,21 @@ use lib.Dec.{leb}
 use lib.ListN.{length, take}
 use lib.Ieee.{Float, Format}
 use Rattle.floats.specs.declared.Slice.TheVariants.{Noise, Points}
-use Rattle.floats.specs.Refusal.{Refusal, STAGE, SIZE, NUMBER, verdict, taken, Outcome, refusal, onward}
+use Rattle.floats.specs.declared.Refusal.{Refusal}
+use Rattle.floats.specs.declared.Refusal.TheVariants.{Stage as STAGE, Size as SIZE, Number as NUMBER}
+use Rattle.floats.specs.Refusal.{verdict, taken, Outcome, refusal, onward}
 use Rattle.floats.specs.Search.{Input, input, searched_from, searched}
 use Rattle.floats.specs.Numbers.{all_finite}
 use Rattle.floats.proofs.Finite.{all_zeros}
 use Rattle.floats.proofs.Refusals.{number_of, number_above}
 use Rattle.floats.proofs.Search.{none_bad}
-use Rattle.angles.specs.declared.Kind.{Kind}
+use Rattle.angles.specs.Kinds.{Kind}
 use Rattle.matrix.specs.Results.{run, planned}
 use Rattle.matrix.proofs.Cells.{length_zeros}
 use Rattle.sigma.specs.Draw.{point_numbers}
 use Rattle.filter.specs.declared.Stage.{Stage}
 use Rattle.filter.specs.declared.Stage.TheVariants.{Shut, Predicting, Correcting, PredictingStepped, CorrectingStepped}
-use Rattle.filter.specs.declared.Filter.{Filter}
+use Rattle.filter.specs.Types.{Filter}
 use Rattle.filter.specs.Asked.{Asks, in_range, within, long, every, guarded}
 use Rattle.filter.specs.Filters.{is_shut, is_predicting, is_correcting, is_predicting_stepped, is_correcting_stepped, is_stepped, nothing_kept, seen}
 use Rattle.filter.specs.Calls.{CloseCall, close_prediction, close_correction, close_correction_flat, StepCall, ask, image_prediction, image_correction, SteppedClose, close_prediction_stepped, close_correction_stepped, close_correction_flat_stepped, Call, stepping, closing, closing_stepped, abandon, due, own_stepped, fits, sized, named, observed_numbers, asks, plan}

@@ -12,7 +12,8 @@ use lib.ListN.{length, take, drop, length-drop}
 use lib.Seq.{paste, length-take-le, take_at, drop_at, take-take, drop-drop, take-add, drop-append_seam}
 use lib.Ieee.{Float, Format}
 use Rattle.floats.specs.declared.Slice.TheVariants.{Noise, Points, Measurement, Lone}
-use Rattle.floats.specs.Refusal.{Refusal, taken, Outcome, refused, accepted}
+use Rattle.floats.specs.declared.Refusal.{Refusal}
+use Rattle.floats.specs.Refusal.{taken, Outcome, refused, accepted}
 use Rattle.floats.specs.Search.{input, searched}
 use Rattle.floats.specs.Numbers.{zeros, all_finite}
 use Rattle.floats.specs.Fronts.{front}
@@ -26,11 +27,11 @@ use Rattle.sigma.specs.Weights.{w0m_of}
 use Rattle.correction.specs.Leaves.{widened}
 use Rattle.correction.specs.Correct.{apply_plan, given, weighted_head}
 use Rattle.correction.specs.Flat.{flat_head}
-use Rattle.filter.specs.declared.Kept.{Kept}
-use Rattle.filter.specs.declared.Sheet.{Sheet}
-use Rattle.filter.specs.declared.Weighted.{Weighted}
-use Rattle.filter.specs.declared.Filter.{Filter}
-use Rattle.filter.specs.declared.Answer.{Answer}
+use Rattle.filter.specs.Types.{Kept}
+use Rattle.filter.specs.Types.{Sheet}
+use Rattle.filter.specs.Types.{Weighted}
+use Rattle.filter.specs.Types.{Filter}
+use Rattle.filter.specs.Types.{Answer}
 use Rattle.filter.specs.Asked.{Asks, in_range, within, every, guarded}
 use Rattle.filter.specs.Filters.{filter, close, is_predicting_stepped, is_correcting_stepped, is_stepped, keeping, nothing_kept, seen, Setting, opened_prediction, opened_correction, opened_correction_stepped, with_drawn, with_kept}
 use Rattle.filter.specs.Calls.{open_correction_stepped, ask, image_prediction, image_correction, SteppedClose, close_prediction_stepped, close_correction_stepped, close_correction_flat_stepped, with_list, Call, setting, stepping, closing, closing_stepped, CloseCall, fits, halves, named, named_by, asks, Done, opened, opened_stepped, asked_for, handed_in, closed, close_plan, plan}

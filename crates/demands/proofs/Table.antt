@@ -7,19 +7,21 @@ use mathlib.Core.Logic.{◌↔◌, ◌≢◌, ◌⊎◌, inl, inr, ⊎_elim}
 use native.Mathlib.Omega.{arith}
 use lib.Ieee.{Float, Format}
 use lib.Ieee.Scale.{finite}
-use Rattle.floats.specs.Refusal.{Refusal, SIZE, SHORT, STAGE, STALE, NUMBER, PARAM, PIVOT, INNOV, RANGE, KIND, FRESH, RECORD, bad_lone, verdict, accepted, refusal, unless, onward, nothing}
+use Rattle.floats.specs.declared.Refusal.{Refusal}
+use Rattle.floats.specs.declared.Refusal.TheVariants.{Size as SIZE, Short as SHORT, Stage as STAGE, Stale as STALE, Number as NUMBER, Param as PARAM, Pivot as PIVOT, Innovation as INNOV, Range as RANGE, Kind as KIND, Fresh as FRESH, Record as RECORD}
+use Rattle.floats.specs.Refusal.{bad_lone, verdict, accepted, refusal, unless, onward, nothing}
 use Rattle.floats.specs.Search.{searched, searched_from}
 use Rattle.floats.proofs.Refusals.{number_of, named}
 use Rattle.floats.specs.Numbers.{zeros}
 use Rattle.floats.specs.Fronts.{front}
 use Rattle.angles.specs.Kinds.{half_of, passes, kind_of}
-use Rattle.angles.specs.declared.Kind.{Kind}
+use Rattle.angles.specs.Kinds.{Kind}
 use Rattle.matrix.specs.Results.{Result, run, planned}
 use Rattle.sigma.specs.Draw.{point_numbers}
 use Rattle.correction.specs.Correct.{apply_plan}
-use Rattle.filter.specs.declared.Filter.{Filter}
+use Rattle.filter.specs.Types.{Filter}
 use Rattle.filter.specs.Asked.{Size, within, in_order, guarded}
-use Rattle.filter.specs.declared.Kept.{Kept}
+use Rattle.filter.specs.Types.{Kept}
 use Rattle.filter.specs.Filters.{is_shut, seen, Writing, Setting, Closing, Change, writes, sets, closes, keeps, abandons, reads}
 use Rattle.filter.specs.Calls.{set_x, set_p, set_q, set_params, set_kind, open_prediction, open_correction, open_prediction_stepped, open_correction_stepped, ask, image_prediction, image_correction, CloseCall, close_prediction, close_correction, close_correction_flat, close_prediction_stepped, close_correction_stepped, close_correction_flat_stepped, with_list, read_x, read_p, read_q, read_points, read_params, read_stale, save, Call, writing, setting, stepping, closing, closing_stepped, abandon, reading, fits, close_needs, asks, Done, closed, plan, weighted_from, flat_from}
 use Rattle.filter.specs.Steps.{step}
@@ -273,7 +275,7 @@ module _ (f : Format) (s : Filter) (c : Call) where
 -- setting a kind answers what the check of the kind does, once 3 and 1 are passed
 pub kind_checked : (f : Format) (s : Filter) (i : ℕ) (k : Kind) → is_shut s.track.stage ≡ true → (1 ≤ s.sheet.n) × (s.sheet.n ≤ 8) → i < s.sheet.n → (step f s (writing (set_kind i k))).reply.refusal ≡ refusal (kind_of f k)
 unfolding guarded in_order searched searched_from run
-kind_checked f s i k h w l = step_told f s (writing (set_kind i k)) ∙ rw (h, states, index) (go _ (finite (half_of k)) (passes f k.residual))
+kind_checked f s i k h w l = step_told f s (writing (set_kind i k)) ∙ rw (h, states, index) (go _ (finite (half_of k)) (passes f k))
   where
     states : within (record { value = s.sheet.n; from = 1; to = 8 }) ≡ true
     states = passes_where (ranged _) (⊎_elim (λ b. omega arith) (λ b. omega arith))

@@ -10,13 +10,14 @@ use lib.ListN.{take}
 use lib.Ieee.{Float, Format}
 use Rattle.floats.specs.declared.Slice.{Slice}
 use Rattle.floats.specs.declared.Slice.TheVariants.{Noise, Points, Measurement, Lone}
-use Rattle.floats.specs.Refusal.{NUMBER, KIND, slice_number, verdict}
+use Rattle.floats.specs.declared.Refusal.TheVariants.{Number as NUMBER, Kind as KIND}
+use Rattle.floats.specs.Refusal.{slice_number, verdict}
 use Rattle.floats.specs.Search.{Input, input}
 use Rattle.floats.specs.Numbers.{all_finite}
-use Rattle.angles.specs.declared.Kind.{Kind}
+use Rattle.angles.specs.Kinds.{Kind}
 use Rattle.matrix.specs.Results.{Result}
 use Rattle.matrix.proofs.Flat.{split}
-use Rattle.filter.specs.declared.Filter.{Filter}
+use Rattle.filter.specs.Types.{Filter}
 use Rattle.filter.specs.Asked.{Param, Asks, in_range, within, long}
 use Rattle.filter.specs.Filters.{is_correcting, seen}
 use Rattle.filter.specs.Calls.{CloseCall, Call, closing, close_correction, close_correction_flat, sized, needing, needing_plain, observed_numbers, lent_measured, asking, asks}

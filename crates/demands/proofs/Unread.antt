@@ -7,10 +7,10 @@ use native.Mathlib.Omega.{arith}
 use lib.ListN.{length, get_or, take, replicate, get_or-append}
 use lib.Seq.{get_or-take}
 use lib.Ieee.{Float, nan, Format, add, sub, mul}
-use Rattle.floats.specs.Refusal.{INNOV}
+use Rattle.floats.specs.declared.Refusal.TheVariants.{Innovation as INNOV}
 use Rattle.floats.specs.Numbers.{plus_zero, zeros}
 use Rattle.angles.specs.Kinds.{through_of, plain}
-use Rattle.angles.specs.declared.Kind.{Kind}
+use Rattle.angles.specs.Kinds.{Kind}
 use Rattle.matrix.specs.Folds.{total_of, places_of, row_of, rows_of}
 use Rattle.matrix.specs.Results.{Plan, finish, after, listed, run, mapped}
 use Rattle.matrix.specs.Sums.{minus_of}
@@ -23,7 +23,7 @@ use Rattle.sigma.specs.Predict.{Moment}
 use Rattle.sigma.specs.Weights.{w0m_of}
 use Rattle.correction.specs.Leaves.{innovation_at, innovation_of, shifted_of, widened}
 use Rattle.correction.specs.Correct.{Head, apply_plan, given, weighted_head, correct_plan}
-use Rattle.filter.specs.declared.Filter.{Filter}
+use Rattle.filter.specs.Types.{Filter}
 use Rattle.filter.specs.Asked.{Asks, guarded}
 use Rattle.filter.specs.Filters.{is_correcting, seen}
 use Rattle.filter.specs.Calls.{closing, close_correction, sized, halves, as_kinds, line, lent_measured, inputs_measured, measurement, closed}

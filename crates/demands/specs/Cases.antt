@@ -5,23 +5,23 @@ use Rattle.std.specs.Bool.{beq}
 use Rattle.std.specs.Float.{nan, inf, Format, binary32, binary64}
 use Rattle.std.specs.Float.Ieee.{emax, of_bits, neg}
 use Rattle.floats.specs.declared.Verdict.{Verdict}
-use Rattle.floats.specs.Refusal.{PIVOT, placeless, taken, Outcome, refused, accepted, refusal, or}
+use Rattle.floats.specs.declared.Refusal.TheVariants.{Pivot as PIVOT}
+use Rattle.floats.specs.Refusal.{placeless, taken, Outcome, refused, accepted, refusal, or}
 use Rattle.floats.specs.Numbers.{zeros}
 use Rattle.floats.specs.Fronts.{front}
 use Rattle.root.specs.Answer.{root_outcome}
-use Rattle.angles.specs.Wrap.{wrap_of, wrapped}
+use Rattle.angles.specs.Wrap.{wrap_of}
 use Rattle.angles.specs.Kinds.{plain, kind_of}
-use Rattle.angles.specs.declared.Kind.{Kind}
-use Rattle.angles.specs.declared.Residual.{Residual}
-use Rattle.angles.specs.declared.Residual.TheVariants.{Plain, Turn}
+use Rattle.angles.specs.Kinds.{Kind}
+use Rattle.angles.specs.declared.Kind.TheVariants.{Plain, Turn}
 use Rattle.matrix.specs.Results.{Result, numbers, pivot, rooting, worked, results}
 use Rattle.matrix.specs.Sums.{dot_of, plus_of, minus_of}
 use Rattle.matrix.specs.Factor.{factor_of}
-use Rattle.sigma.specs.declared.Params.{Params}
+use Rattle.sigma.specs.Weights.{Params}
 use Rattle.sigma.specs.Weights.{lambda_of, scale_of, w0m_of, w0c_of, wi_of, weights_of}
 use Rattle.sigma.specs.Mean.{mean_of}
 use Rattle.correction.specs.Correct.{Head, given, weighted_head}
-use Rattle.filter.specs.declared.Filter.{Filter}
+use Rattle.filter.specs.Types.{Filter}
 use Rattle.filter.specs.Calls.{Call, writing, setting, stepping, closing, closing_stepped, abandon, reading, set_x, set_p, set_q, set_params, set_kind, open_prediction, open_correction, open_prediction_stepped, open_correction_stepped, ask, image_prediction, image_correction, close_prediction, close_correction, close_correction_flat, close_prediction_stepped, close_correction_stepped, close_correction_flat_stepped, read_q, read_points, read_stale, save, values_of, halves}
 use Rattle.filter.specs.Records.{bytes_of}
 use Rattle.filter.specs.New.{new_answer}
@@ -66,15 +66,15 @@ root_is f x r = accepts (root_outcome f x) r
 
 -- the wrap of d by 180
 abbrev pub wrap_is : Format → Float → Float → Bool
-wrap_is f d w = let a = wrapped (wrap_of f d (int 180)) in says a.refusal 0 0 && (a.value is w)
+wrap_is f d w = accepts (wrap_of f d (int 180)) w
 
 -- the wrap of d by h, accepted, is w
 abbrev pub wrap_by : Format → Float → Float → Float → Bool
-wrap_by f h d w = let a = wrapped (wrap_of f d h) in says a.refusal 0 0 && (a.value is w)
+wrap_by f h d w = accepts (wrap_of f d h) w
 
--- that of d by h is refused by a number at place 0, with +0
+-- that of d by h is refused by a number at place 0
 abbrev pub wrap_refused : Format → Float → Float → ℕ → Bool
-wrap_refused f h d number = let a = wrapped (wrap_of f d h) in says a.refusal number 0 && (a.value is int 0)
+wrap_refused f h d number = says (refusal (wrap_of f d h)) number 0
 
 -- rows of two
 abbrev pub rows : Float → Float → Float → Float → List Float
@@ -132,7 +132,7 @@ story =
     ∷ ("and P = 4", (setting (set_p (int 4 ∷ [])), telling 0 [] (int 3) (int 4) true))
     ∷ ("drawn afresh once more", (setting (open_correction three), telling 0 (int 3 ∷ int 5 ∷ int 1 ∷ []) (int 3) (int 4) true))
     ∷ ("abandoned", (abandon, telling 0 [] (int 3) (int 4) true))
-    ∷ ("C12 a turn", (writing (set_kind 0 (record { residual = Turn (int 180) })), telling 0 [] (int 3) (int 4) true))
+    ∷ ("C12 a turn", (writing (set_kind 0 (Turn (int 180))), telling 0 [] (int 3) (int 4) true))
     ∷ ("C12 open", (setting (open_prediction three), telling 0 (int 3 ∷ int 5 ∷ int 1 ∷ []) (int 3) (int 4) true))
     ∷ ("C12 close", (closing (close_prediction (int 179 ∷ minus 171 ∷ int 169 ∷ [])), telling 0 [] (int 179) (int 101) false))
     ∷ []
@@ -150,7 +150,7 @@ flat_story =
     ∷ ("A1 open", (setting (open_correction three), telling 0 (int 5 ∷ int 4 ∷ int 0 ∷ []) (int 2) (int 5) false))
     ∷ ("A1 close", (measuring_flat (int 6), telling 0 [] (int 3) (int 4) true))
     ∷ ("A1 stale", (reading read_stale, marking (int 3) (int 4) true))
-    ∷ ("A1 a turn", (writing (set_kind 0 (record { residual = Turn (int 180) })), telling 0 [] (int 3) (int 4) true))
+    ∷ ("A1 a turn", (writing (set_kind 0 (Turn (int 180))), telling 0 [] (int 3) (int 4) true))
     ∷ ("A1 drawn afresh", (setting (open_correction three), telling 0 (int 3 ∷ int 5 ∷ int 1 ∷ []) (int 3) (int 4) true))
     ∷ ("A1 a number before a turn", (measuring_flat nan, telling 55 [] (int 3) (int 4) true))
     ∷ ("A1 turned away", (measuring_flat (int 6), telling 10 [] (int 3) (int 4) true))
@@ -231,7 +231,7 @@ stepped_flat_story =
     ∷ ("A7 A1 point 2", (asking, telling 0 (int 0 ∷ []) (int 2) (int 5) false))
     ∷ ("A7 A1 image 2", (observing (minus 1), telling 0 [] (int 2) (int 5) false))
     ∷ ("A7 A1 close", (measuring_flat_stepped, telling 0 [] (int 3) (int 4) true))
-    ∷ ("A7 A1 a turn", (writing (set_kind 0 (record { residual = Turn (int 180) })), telling 0 [] (int 3) (int 4) true))
+    ∷ ("A7 A1 a turn", (writing (set_kind 0 (Turn (int 180))), telling 0 [] (int 3) (int 4) true))
     ∷ ("A7 A1 open again", (setting open_correction_stepped, telling 0 [] (int 3) (int 4) true))
     ∷ ("A7 A1 drawn afresh", (asking, telling 0 (int 3 ∷ []) (int 3) (int 4) true))
     ∷ ("A7 A1 image 0 with a turn", (observing (int 2), telling 0 [] (int 3) (int 4) true))
@@ -273,7 +273,7 @@ abbrev pub pair_story : List (String × (SideCall × Told))
 pair_story =
     ("A4 the first opens", (by First (setting (open_prediction three)), telling 0 (int 2 ∷ int 4 ∷ int 0 ∷ []) (int 2) (int 4) true))
     ∷ ("A4 the partner open", (by Second (writing (set_q (int 9 ∷ []))), telling 3 [] (int 3) (int 16) true))
-    ∷ ("A4 before 1 and 56", (by Second (writing (set_kind 7 (record { residual = Turn nan }))), telling 3 [] (int 3) (int 16) true))
+    ∷ ("A4 before 1 and 56", (by Second (writing (set_kind 7 (Turn nan))), telling 3 [] (int 3) (int 16) true))
     ∷ ("A4 itself open", (by First (writing (set_params c1)), telling 3 [] (int 2) (int 4) true))
     ∷ ("A4 its own x", (by Second (setting (set_x (int 5 ∷ []))), telling 0 [] (int 5) (int 16) true))
     ∷ ("A4 both open", (by Second (setting (open_prediction three)), telling 0 (int 5 ∷ int 9 ∷ int 1 ∷ []) (int 5) (int 16) true))
@@ -297,7 +297,7 @@ pair_story =
     ∷ ("A4 alpha 1 again", (by Second (writing (set_params c1)), telling 0 [] (int 5) (int 16) true))
     ∷ ("A4 the first predicts", (by First (setting (open_prediction three)), telling 0 (frac 9 4 ∷ frac 17 4 ∷ frac 1 4 ∷ []) (frac 9 4) (int 4) true))
     ∷ ("A4 and isn't stale", (by First (closing (close_prediction (int 2 ∷ int 4 ∷ int 0 ∷ []))), telling 0 [] (int 2) (int 13) false))
-    ∷ ("A4 a turn through the second", (by Second (writing (set_kind 0 (record { residual = Turn (int 180) }))), telling 0 [] (int 5) (int 16) true))
+    ∷ ("A4 a turn through the second", (by Second (writing (set_kind 0 (Turn (int 180)))), telling 0 [] (int 5) (int 16) true))
     ∷ ("A4 it marks the first", (by First (reading read_stale), marking (int 2) (int 13) true))
     ∷ ("A4 P of the first", (by First (setting (set_p (int 4 ∷ []))), telling 0 [] (int 2) (int 4) true))
     ∷ ("A4 the first opens again", (by First (setting (open_prediction three)), telling 0 (int 2 ∷ int 4 ∷ int 0 ∷ []) (int 2) (int 4) true))
@@ -339,8 +339,8 @@ flawed = four (int 1) (int 2) (int 2) (int 1)
 abbrev pub searching : List Float → List Float → List Float → List Kind → Call
 searching r observed z kinds = closing (close_correction 2 z r kinds observed)
 
-abbrev pub kinds_of : Residual → Residual → Residual → List Kind
-kinds_of a b c = record { residual = a } ∷ record { residual = b } ∷ record { residual = c } ∷ plain ∷ []
+abbrev pub kinds_of : Kind → Kind → Kind → List Kind
+kinds_of a b c = a ∷ b ∷ c ∷ plain ∷ []
 
 -- what a call should tell, after which x is (1, 2), P is (d e, e d) and the filter is stale: the number at its place and the numbers given
 abbrev pub placing : ℕ → ℕ → List Float → ℕ → ℕ → Told
@@ -348,15 +348,15 @@ placing number place given d e = record { reply = record { refusal = record { nu
 
 abbrev pub place_story : List (String × (Call × Told))
 place_story =
-    let bad : Residual = Turn nan in
+    let bad : Kind = Turn nan in
     ("A5 a state", (setting (set_x (two (int 1) nan)), placing 51 1 [] 4 0))
     ∷ ("A5 the first of two", (setting (set_x (bad_at 0)), placing 51 0 [] 4 0))
     ∷ ("A5 a covariance", (setting (set_p (bad_at 1)), placing 52 1 [] 4 0))
     ∷ ("A5 a noise", (writing (set_q (bad_at 3)), placing 53 3 [] 4 0))
     ∷ ("A5 alpha", (writing (set_params (params (inf false) nan (int 2))), placing 56 0 [] 4 0))
     ∷ ("A5 kappa", (writing (set_params (params (int 1) (int 0) nan)), placing 56 2 [] 4 0))
-    ∷ ("A5 a kind of the filter", (writing (set_kind 1 (record { residual = bad })), placing 56 0 [] 4 0))
-    ∷ ("A5 1 before it", (writing (set_kind 2 (record { residual = bad })), placing 1 0 [] 4 0))
+    ∷ ("A5 a kind of the filter", (writing (set_kind 1 bad), placing 56 0 [] 4 0))
+    ∷ ("A5 1 before it", (writing (set_kind 2 bad), placing 1 0 [] 4 0))
     ∷ ("A5 past the front", (setting (set_p (flawed ++ (nan ∷ []))), placing 0 0 [] 1 2))
     ∷ ("A5 a pivot of P", (setting (open_prediction ten), placing 7 1 [] 1 2))
     ∷ ("A5 the same by a correction", (setting (open_correction ten), placing 7 1 [] 1 2))
@@ -378,7 +378,7 @@ place_story =
     ∷ ("A5 of four, R to its end", (closing (close_correction 4 (bad_at 3) (set (ones 16) 15 nan) (kinds_of bad bad bad) (set (ones 20) 19 nan)), placing 53 15 [] 4 0))
     ∷ ("A5 of four, the points to their end", (closing (close_correction 4 (bad_at 3) (ones 16) (kinds_of bad bad bad) (set (ones 20) 19 nan)), placing 54 19 [] 4 0))
     ∷ ("A5 of four, z to its end", (closing (close_correction 4 (bad_at 3) (ones 16) (kinds_of bad bad bad) (ones 20)), placing 55 3 [] 4 0))
-    ∷ ("A5 the last of four", (closing (close_correction 4 (ones 4) (ones 16) (plain ∷ plain ∷ record { residual = Turn (int 0) } ∷ record { residual = Turn (inf false) } ∷ []) (ones 20)), placing 56 3 [] 4 0))
+    ∷ ("A5 the last of four", (closing (close_correction 4 (ones 4) (ones 16) (plain ∷ plain ∷ Turn (int 0) ∷ Turn (inf false) ∷ []) (ones 20)), placing 56 3 [] 4 0))
     ∷ ("A5 6 tells no place", (searching flawed (ones 10) (two (int 1) (int 1)) (kinds_of Plain (Turn (int 0)) Plain), placing 6 0 [] 4 0))
     ∷ ("A5 a pivot of S", (searching flawed (ones 10) (two (int 1) (int 1)) (kinds_of Plain Plain bad), placing 8 1 [] 4 0))
     ∷ ("A5 the first pivot of S", (searching (zeros 4) (ones 10) (two (int 1) (int 1)) (kinds_of Plain Plain bad), placing 8 0 [] 4 0))
@@ -448,7 +448,7 @@ flat_place_story =
     ∷ ("A5 flat, points before z", (closing (close_correction_flat 2 (bad_at 0) flawed (bad_at 9)), placing 54 9 [] 4 0))
     ∷ ("A5 flat, a pivot of S", (closing (close_correction_flat 2 (two (int 1) (int 1)) flawed (ones 10)), placing 8 1 [] 4 0))
     ∷ ("A5 given up again", (abandon, placing 0 0 [] 4 0))
-    ∷ ("A5 the second kind a turn", (writing (set_kind 1 (record { residual = Turn (int 180) })), placing 0 0 [] 4 0))
+    ∷ ("A5 the second kind a turn", (writing (set_kind 1 (Turn (int 180))), placing 0 0 [] 4 0))
     ∷ ("A5 another correction", (setting (open_correction ten), placing 0 0 drawn_ten 4 0))
     ∷ ("A5 flat, z before 10", (closing (close_correction_flat 2 (bad_at 1) flawed (ones 10)), placing 55 1 [] 4 0))
     ∷ ("A5 10 tells no place", (closing (close_correction_flat 2 (two (int 1) (int 1)) flawed (ones 10)), placing 10 0 [] 4 0))
@@ -576,15 +576,15 @@ module _ (f : Format) where
       ∷ ("A5 point 4, whose numbers aren't judged", says (point_refusal f (bad_at 8) 2 4) 0 0)
       ∷ ("A5 root of −1", says (refusal (root_outcome f (minus 1))) 56 0)
       ∷ ("A5 root of an infinity", says (refusal (root_outcome f (inf false))) 56 0)
-      ∷ ("A5 wrap of a NaN", says (wrapped (wrap_of f nan (int 180))).refusal 56 0)
-      ∷ ("A5 wrap by an infinity", says (wrapped (wrap_of f (int 1) (inf false))).refusal 56 0)
-      ∷ ("A5 wrap of a NaN by 0", says (wrapped (wrap_of f nan (int 0))).refusal 56 0)
-      ∷ ("A5 wrap by 0", says (wrapped (wrap_of f (int 1) (int 0))).refusal 6 0)
-      ∷ ("A5 a turn by a NaN", says (refusal (kind_of f (record { residual = Turn nan }))) 56 0)
-      ∷ ("A5 a turn by an infinity", says (refusal (kind_of f (record { residual = Turn (inf true) }))) 56 0)
-      ∷ ("A5 a turn by 0", says (refusal (kind_of f (record { residual = Turn (int 0) }))) 6 0)
+      ∷ ("A5 wrap of a NaN", says (refusal (wrap_of f nan (int 180))) 56 0)
+      ∷ ("A5 wrap by an infinity", says (refusal (wrap_of f (int 1) (inf false))) 56 0)
+      ∷ ("A5 wrap of a NaN by 0", says (refusal (wrap_of f nan (int 0))) 56 0)
+      ∷ ("A5 wrap by 0", says (refusal (wrap_of f (int 1) (int 0))) 6 0)
+      ∷ ("A5 a turn by a NaN", says (refusal (kind_of f (Turn nan))) 56 0)
+      ∷ ("A5 a turn by an infinity", says (refusal (kind_of f (Turn (inf true)))) 56 0)
+      ∷ ("A5 a turn by 0", says (refusal (kind_of f (Turn (int 0)))) 6 0)
       ∷ ("A6 root of the smallest number", root_is f (smallest f) (root_of_smallest f))
-      ∷ ("A6 wrap by a number whose double is too large", says (wrapped (wrap_of f (int 1) (largest f))).refusal 6 0)
+      ∷ ("A6 wrap by a number whose double is too large", says (refusal (wrap_of f (int 1) (largest f))) 6 0)
       ∷ ("A6 wi of three states", wi_of f 3 c1 is sixth f)
       ∷ ("A6 a sum, a tie rounded to even", plus_of f 1 (last f ∷ []) (int 1 ∷ []) are (last f ∷ zeros 63))
       ∷ ("A6 a difference, the same", minus_of f 1 (last f ∷ []) (frac 1 2 ∷ []) are (last f ∷ zeros 63))
@@ -603,7 +603,7 @@ module _ (f : Format) where
       ∷ ("A9 1 by −180: 6, and −1, and 2 by −360", wrap_refused f (minus 180) (int 1) 6 && (wrap_refused f (minus 180) (minus 1) 6 && wrap_refused f (minus 360) (int 2) 6))
       ∷ ("C10 S", take 1 (c10 f).s are (int 16 ∷ []))
       ∷ ("C10 K", take 1 (gain f (c10 f)) are (frac 1 4 ∷ []))
-      ∷ ("C12 mean", take 1 (mean_of f (int 179 ∷ minus 171 ∷ int 169 ∷ []) 1 2 (w0m_of f 1 c1) (weights_of f 1 c1) (record { residual = Turn (int 180) } ∷ [])) are (int 179 ∷ []))
+      ∷ ("C12 mean", take 1 (mean_of f (int 179 ∷ minus 171 ∷ int 169 ∷ []) 1 2 (w0m_of f 1 c1) (weights_of f 1 c1) (Turn (int 180) ∷ [])) are (int 179 ∷ []))
       ∷ []
 
   abbrev pub call_cases : List (String × Bool)
@@ -711,7 +711,7 @@ record_story =
     ∷ ("A8 predicted", (closing (close_prediction (int 2 ∷ int 4 ∷ int 0 ∷ [])), telling 0 [] (int 2) (int 5) false))
     ∷ ("A8 not stale", (room 60, saving 11 [] (int 2) (int 5) false))
     ∷ ("A8 no room before not stale", (room 59, saving 2 [] (int 2) (int 5) false))
-    ∷ ("A8 a turn", (writing (set_kind 0 (record { residual = Turn (int 180) })), telling 0 [] (int 2) (int 5) true))
+    ∷ ("A8 a turn", (writing (set_kind 0 (Turn (int 180))), telling 0 [] (int 2) (int 5) true))
     ∷ ("A8 P = 4", (setting (set_p (int 4 ∷ [])), telling 0 [] (int 2) (int 4) true))
     ∷ ("A8 the turn saved", (room 60, saving 0 (first_bytes turn_bytes) (int 2) (int 4) true))
     ∷ []

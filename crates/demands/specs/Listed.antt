@@ -1,8 +1,8 @@
 -- The step results that are checked, in running order, as document 01 lists them: open, close prediction, close correction; document 02's flat close has the same list. Definitions only.
 use Rattle.std.specs.Prelude.{ℕ, ◌+◌, ◌*◌, List, [], ◌∷◌, ◌++◌, take, Float}
 use Rattle.std.specs.Float.{Format}
-use Rattle.floats.specs.Refusal.{PIVOT, INNOV}
-use Rattle.angles.specs.declared.Kind.{Kind}
+use Rattle.floats.specs.declared.Refusal.TheVariants.{Pivot as PIVOT, Innovation as INNOV}
+use Rattle.angles.specs.Kinds.{Kind}
 use Rattle.root.specs.Definition.{root_of}
 use Rattle.matrix.specs.Results.{Result, numbers, rooting, results, product}
 use Rattle.matrix.specs.Sums.{plus_of, minus_of}

@@ -3,10 +3,11 @@ use Rattle.std.specs.Prelude.{ℕ, zero, suc, ◌≡◌, Bool, true, not, ◌&&�
 use Rattle.std.proofs.Math.Bool.{false, cond}
 use mathlib.Core.List.{List, [], ◌∷◌, ◌++◌}
 use Rattle.std.specs.Float.{Format}
-use Rattle.floats.specs.Refusal.{STAGE, refused}
-use Rattle.filter.specs.declared.Sheet.{Sheet}
-use Rattle.filter.specs.declared.Track.{Track}
-use Rattle.filter.specs.declared.Filter.{Filter}
+use Rattle.floats.specs.declared.Refusal.TheVariants.{Stage as STAGE}
+use Rattle.floats.specs.Refusal.{refused}
+use Rattle.filter.specs.Types.{Sheet}
+use Rattle.filter.specs.Types.{Track}
+use Rattle.filter.specs.Types.{Filter}
 use Rattle.filter.specs.Filters.{with_mark, filter, is_shut}
 use Rattle.filter.specs.Calls.{SheetCall, SetCall, Call, writing, setting, stepping, closing, closing_stepped, abandon, reading}
 use Rattle.filter.specs.Steps.{Stepped, stepped, step}

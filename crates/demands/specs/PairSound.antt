@@ -1,8 +1,8 @@
 -- The pairs that the demands speak of. Definitions only.
 use Rattle.std.specs.Prelude.{ℕ, ◌≡◌, List, ◌⊎◌, Float}
 use Rattle.std.specs.Float.{Format}
-use Rattle.sigma.specs.declared.Params.{Params}
-use Rattle.filter.specs.declared.Track.{Track}
+use Rattle.sigma.specs.Weights.{Params}
+use Rattle.filter.specs.Types.{Track}
 use Rattle.filter.specs.Calls.{Call}
 use Rattle.pairs.specs.declared.Pair.{Pair}
 use Rattle.pairs.specs.declared.Side.{Side}

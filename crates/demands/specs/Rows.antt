@@ -6,16 +6,17 @@ use Rattle.std.specs.Float.Ieee.Scale.{finite}
 use Rattle.floats.specs.declared.Slice.{Slice}
 use Rattle.floats.specs.declared.Slice.TheVariants.{State, Covariance, Noise, Points, Measurement, Lone}
 use Rattle.floats.specs.declared.Verdict.{Verdict}
-use Rattle.floats.specs.Refusal.{Refusal, SIZE, SHORT, STAGE, STALE, NUMBER, PARAM, PIVOT, INNOV, RANGE, KIND, FRESH, RECORD, bad_lone, slice_number}
+use Rattle.floats.specs.declared.Refusal.{Refusal}
+use Rattle.floats.specs.declared.Refusal.TheVariants.{Size as SIZE, Short as SHORT, Stage as STAGE, Stale as STALE, Number as NUMBER, Param as PARAM, Pivot as PIVOT, Innovation as INNOV, Range as RANGE, Kind as KIND, Fresh as FRESH, Record as RECORD}
+use Rattle.floats.specs.Refusal.{bad_lone, slice_number}
 use Rattle.floats.specs.Search.{Input, input}
 use Rattle.floats.specs.Numbers.{plus_zero, all_finite}
 use Rattle.angles.specs.Kinds.{plain, half_of}
-use Rattle.angles.specs.declared.Kind.{Kind}
-use Rattle.angles.specs.declared.Residual.{Residual}
-use Rattle.angles.specs.declared.Residual.TheVariants.{Plain, Turn}
+use Rattle.angles.specs.Kinds.{Kind}
+use Rattle.angles.specs.declared.Kind.TheVariants.{Plain, Turn}
 use Rattle.matrix.specs.Results.{Result, numbers, pivot, rooting, refusal_of}
 use Rattle.sigma.specs.Weights.{scale_of, w0m_of, w0c_of, wi_of}
-use Rattle.filter.specs.declared.Filter.{Filter}
+use Rattle.filter.specs.Types.{Filter}
 use Rattle.filter.specs.Filters.{is_correcting, seen}
 use Rattle.filter.specs.Asked.{Size, Lent, of_numbers, of_bytes, Param, by_params, by_kind, Asks}
 use Rattle.filter.specs.Calls.{CloseCall, SteppedClose, with_list, Call, writing, setting, stepping, closing, closing_stepped, abandon, reading, set_x, set_p, set_q, set_params, set_kind, open_prediction, open_correction, open_prediction_stepped, open_correction_stepped, ask, image_prediction, image_correction, close_prediction, close_correction, close_correction_flat, close_prediction_stepped, close_correction_stepped, close_correction_flat_stepped, save, fits, sized, lend, halves, as_kinds, Needs, named, needing, needing_plain, asking, asks}
@@ -89,7 +90,7 @@ Ascending k (x ∷ l) = (k < slice_number x.name) × Ascending (slice_number x.n
 
 -- a half-turn that comes in isn't finite
 abbrev pub BadTurn : Kind → Type 0
-BadTurn k = (h : Float) × (k.residual ≡ Turn h) × NotFinite h
+BadTurn k = (h : Float) × (k ≡ Turn h) × NotFinite h
 
 -- the first such kind is that at i
 abbrev pub FirstBadTurn : List Kind → ℕ → Type 0
@@ -97,16 +98,16 @@ FirstBadTurn = FirstAt BadTurn plain
 
 -- 10: a state kind is a turn
 abbrev pub IsTurn : Kind → Type 0
-IsTurn k = (h : Float) × (k.residual ≡ Turn h)
+IsTurn k = (h : Float) × (k ≡ Turn h)
 
 -- 6: n+lambda not finite or not above 0, or w0m, w0c or wi not finite; h not above 0 or 2h not finite
-abbrev pub UnfitTurn : Format → Residual → Type 0
+abbrev pub UnfitTurn : Format → Kind → Type 0
 UnfitTurn f Plain = ⊥
 UnfitTurn f (Turn h) = NotAbove h ⊎ NotFinite (add f h h)
 
 abbrev pub Unfit : Format → Param → Type 0
 Unfit f (by_params n p) = (NotFinite (scale_of f n p) ⊎ NotAbove (scale_of f n p)) ⊎ (NotFinite (w0m_of f n p) ⊎ (NotFinite (w0c_of f n p) ⊎ NotFinite (wi_of f n p)))
-Unfit f (by_kind k) = UnfitTurn f k.residual
+Unfit f (by_kind k) = UnfitTurn f k
 
 -- 7 and 8: a pivot isn't finite or isn't above 0; 9: a listed step result isn't finite; 56: root of a number that isn't finite or is below zero
 abbrev pub Fails : Result → Type 0

@@ -2,8 +2,8 @@
 use Rattle.std.specs.Prelude.{◌≡◌, Bool, true, false, Float}
 use mathlib.Core.List.{List, [], ◌∷◌, ◌++◌}
 use Rattle.std.specs.Float.{Format}
-use Rattle.filter.specs.declared.Filter.{Filter}
-use Rattle.filter.specs.declared.Track.{Track}
+use Rattle.filter.specs.Types.{Filter}
+use Rattle.filter.specs.Types.{Track}
 use Rattle.filter.specs.declared.Stage.TheVariants.{Shut}
 use Rattle.filter.specs.Filters.{is_shut}
 use Rattle.filter.specs.Calls.{Call, abandon}

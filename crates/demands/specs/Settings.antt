@@ -5,7 +5,7 @@ use Rattle.matrix.specs.Sums.{plus_of}
 use Rattle.sigma.specs.Weights.{w0m_of}
 use Rattle.sigma.specs.Mean.{mean_of}
 use Rattle.sigma.specs.Spread.{deviations_of, spread_of}
-use Rattle.filter.specs.declared.Filter.{Filter}
+use Rattle.filter.specs.Types.{Filter}
 use Rattle.filter.specs.Calls.{SheetCall, set_q, set_params, set_kind, SetCall, set_x, set_p, open_prediction, open_correction, open_prediction_stepped, open_correction_stepped, close_prediction, close_prediction_stepped, Call, writing, setting, stepping, closing, closing_stepped, abandon, reading}
 use Rattle.filter.specs.Steps.{step}
 use Rattle.demands.specs.Sound.{Yielded}

@@ -4,11 +4,11 @@ use Rattle.std.specs.Float.{Format}
 use Rattle.floats.specs.Refusal.{accepted}
 use Rattle.floats.specs.Numbers.{zeros, all_finite}
 use Rattle.angles.specs.Kinds.{plain}
-use Rattle.sigma.specs.declared.Params.{Params}
+use Rattle.sigma.specs.Weights.{Params}
 use Rattle.sigma.specs.Weights.{scale_of, weights_of, weights_pass}
 use Rattle.sigma.specs.Draw.{point_numbers, draw_of}
-use Rattle.filter.specs.declared.Filter.{Filter}
-use Rattle.filter.specs.declared.Weighted.{Weighted}
+use Rattle.filter.specs.Types.{Filter}
+use Rattle.filter.specs.Types.{Weighted}
 use Rattle.filter.specs.Asked.{in_range, fit, every}
 use Rattle.filter.specs.Filters.{is_shut, is_correction, is_stepped, nothing_kept}
 use Rattle.filter.specs.Calls.{Call, halves, values_of, as_kinds}

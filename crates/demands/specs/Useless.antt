@@ -2,11 +2,12 @@
 use Prim.Native.String.{String}
 use Rattle.std.specs.Prelude.{◌≡◌, Bool, true, false, ◌&&◌, cond, List, [], ◌∷◌, ◌++◌, map, ◌↔◌, length, take, get_or, replicate, Float}
 use Rattle.std.specs.Float.{nan, Format, binary64}
-use Rattle.floats.specs.Refusal.{Refusal, verdict, refused}
+use Rattle.floats.specs.declared.Refusal.{Refusal}
+use Rattle.floats.specs.Refusal.{verdict, refused}
 use Rattle.floats.specs.Numbers.{plus_zero, zeros}
 use Rattle.matrix.specs.Results.{planned}
-use Rattle.filter.specs.declared.Track.{Track}
-use Rattle.filter.specs.declared.Filter.{Filter}
+use Rattle.filter.specs.Types.{Track}
+use Rattle.filter.specs.Types.{Filter}
 use Rattle.filter.specs.Filters.{track, with_mark, keeping, filter, seen}
 use Rattle.filter.specs.Calls.{SetCall, set_x, set_p, open_prediction, open_correction, open_prediction_stepped, open_correction_stepped, Call, writing, setting, stepping, closing, closing_stepped, abandon, reading, asks, plan}
 use Rattle.filter.specs.Steps.{Stepped, stepped, step}

@@ -1,10 +1,8 @@
--- The calls of the f32 filter with their inputs, and each read as the f64 filter's. They are document 01's: no flat close is among them, no stepped call and no save. Definitions only.
+-- The calls of the f32 filter with their inputs, and each as a call of any filter. They are document 01's, which A6 asks for: no flat close is among them, no stepped call and no save. Definitions only.
 use Rattle.std.specs.Prelude.{ℕ, List, Float}
-use Rattle.filter.specs.Calls as wide
-use Rattle.angles32.specs.declared.Kind.{Kind}
-use Rattle.angles32.specs.Wide.{wide_kind, wide_kinds}
-use Rattle.sigma32.specs.declared.Params.{Params}
-use Rattle.sigma32.specs.Wide.{wide_params}
+use Rattle.filter.specs.Calls as calls
+use Rattle.angles.specs.Kinds.{Kind}
+use Rattle.sigma.specs.Weights.{Params}
 
 -- ---- by sorts, as crates/filter/specs/Calls.antt has them. A list is a lent slice
 
@@ -37,34 +35,34 @@ pub data Call : Type 0 where
   abandon : Call
   reading : ReadCall → Call
 
--- ---- read wide: the call of the same name, its parameters and kinds read wide
+-- ---- the call of the same name
 
-abbrev pub wide_sheet_call : SheetCall → wide.SheetCall
-wide_sheet_call (set_q v) = wide.set_q v
-wide_sheet_call (set_params p) = wide.set_params (wide_params p)
-wide_sheet_call (set_kind i k) = wide.set_kind i (wide_kind k)
+abbrev pub as_sheet_call : SheetCall → calls.SheetCall
+as_sheet_call (set_q v) = calls.set_q v
+as_sheet_call (set_params p) = calls.set_params p
+as_sheet_call (set_kind i k) = calls.set_kind i k
 
-abbrev pub wide_set_call : SetCall → wide.SetCall
-wide_set_call (set_x v) = wide.set_x v
-wide_set_call (set_p v) = wide.set_p v
-wide_set_call (open_prediction b) = wide.open_prediction b
-wide_set_call (open_correction b) = wide.open_correction b
+abbrev pub as_set_call : SetCall → calls.SetCall
+as_set_call (set_x v) = calls.set_x v
+as_set_call (set_p v) = calls.set_p v
+as_set_call (open_prediction b) = calls.open_prediction b
+as_set_call (open_correction b) = calls.open_correction b
 
-abbrev pub wide_close_call : CloseCall → wide.CloseCall
-wide_close_call (close_prediction v) = wide.close_prediction v
-wide_close_call (close_correction m z r kinds observed) = wide.close_correction m z r (wide_kinds kinds) observed
+abbrev pub as_close_call : CloseCall → calls.CloseCall
+as_close_call (close_prediction v) = calls.close_prediction v
+as_close_call (close_correction m z r kinds observed) = calls.close_correction m z r kinds observed
 
-abbrev pub wide_read_call : ReadCall → wide.ReadCall
-wide_read_call (read_x b) = wide.read_x b
-wide_read_call (read_p b) = wide.read_p b
-wide_read_call (read_q b) = wide.read_q b
-wide_read_call (read_points b) = wide.read_points b
-wide_read_call read_params = wide.read_params
-wide_read_call read_stale = wide.read_stale
+abbrev pub as_read_call : ReadCall → calls.ReadCall
+as_read_call (read_x b) = calls.read_x b
+as_read_call (read_p b) = calls.read_p b
+as_read_call (read_q b) = calls.read_q b
+as_read_call (read_points b) = calls.read_points b
+as_read_call read_params = calls.read_params
+as_read_call read_stale = calls.read_stale
 
-abbrev pub wide_call : Call → wide.Call
-wide_call (writing c) = wide.writing (wide_sheet_call c)
-wide_call (setting c) = wide.setting (wide_set_call c)
-wide_call (closing c) = wide.closing (wide_close_call c)
-wide_call abandon = wide.abandon
-wide_call (reading c) = wide.reading (wide_read_call c)
+abbrev pub as_call : Call → calls.Call
+as_call (writing c) = calls.writing (as_sheet_call c)
+as_call (setting c) = calls.setting (as_set_call c)
+as_call (closing c) = calls.closing (as_close_call c)
+as_call abandon = calls.abandon
+as_call (reading c) = calls.reading (as_read_call c)

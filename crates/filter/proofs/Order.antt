@@ -5,7 +5,9 @@ use mathlib.Core.Bool.{Bool, true, false}
 use mathlib.Core.List.{[]}
 use lib.Ieee.{Format}
 use Rattle.floats.specs.declared.Verdict.{Verdict}
-use Rattle.floats.specs.Refusal.{Refusal, SIZE, SHORT, STAGE, RECORD, STALE, FRESH, KIND, PARAM, verdict, taken, earlier, Outcome, refused, accepted, refusal, nothing}
+use Rattle.floats.specs.declared.Refusal.{Refusal}
+use Rattle.floats.specs.declared.Refusal.TheVariants.{Size as SIZE, Short as SHORT, Stage as STAGE, Record as RECORD, Stale as STALE, Fresh as FRESH, Kind as KIND, Param as PARAM}
+use Rattle.floats.specs.Refusal.{verdict, taken, earlier, Outcome, refused, accepted, refusal, nothing}
 use Rattle.floats.specs.Search.{searched}
 use Rattle.floats.proofs.Refusals.{number_above, earlier_refused}
 use Rattle.floats.proofs.Search.{found_nothing}

@@ -6,19 +6,23 @@ use mathlib.Core.List.{List, []}
 use lib.ListN.{take}
 use lib.Ieee.{Float, Format}
 use Rattle.floats.specs.declared.Verdict.{Verdict}
-use Rattle.floats.specs.Refusal.{taken, Outcome, accepted, refusal, or, onward}
+use Rattle.floats.specs.declared.Refusal.{Refusal}
+use Rattle.floats.specs.Refusal.{verdict, taken, Outcome, accepted, refused, refusal, or, onward}
 use Rattle.floats.specs.Fronts.{over}
 use Rattle.matrix.specs.Results.{Plan, finish, run, mapped}
 use Rattle.floats.proofs.Refusals.{number_of, gave_zero, gave_number}
 use Rattle.matrix.proofs.Mapped.{run_mapped}
-use Rattle.filter.specs.declared.Filter.{Filter}
-use Rattle.filter.specs.declared.Answer.{Answer}
+use Rattle.filter.specs.Types.{Filter}
+use Rattle.filter.specs.Types.{Answer}
+use Rattle.filter.specs.declared.Filter.{Filter as FilterOf}
+use Rattle.filter.specs.declared.Answer.{Answer as AnswerOf}
 use Rattle.filter.specs.Asked.{Asks, guarded, first_refusal}
 use Rattle.filter.specs.Filters.{seen, Change, reads, changed}
 use Rattle.filter.specs.Calls.{Call, lend, line, asks, Done, done, plan}
 use Rattle.filter.specs.Steps.{Stepped, stepped, step, answered}
 use Rattle.filter.proofs.Order.{Passed, passed, goes_on, refuses, none_told, both_ways, number_given, unless_stale}
 use Rattle.filter.proofs.Lines.{counted, counted_first}
+use Rattle.filter.proofs.Seen.{seen_answer}
 
 -- ---- steps
 
@@ -87,6 +91,12 @@ module _ {f : Format} {s : Filter} {c : Call} (t : Told f s c) where
       pub made : (d : A) → (refusal (run p)).number ≡ 0 → step f s c ≡ stepped s (accepted (g (or d (run p))))
       made d h = comes ∙ ap (λ (o : Outcome A). stepped s (onward o (λ (a : A). accepted (g a)))) (gave_zero (run p) d h)
 
+-- ---- an answer over `Number`, of a filter s: each law takes the `same` of the bound first
+
+module _ {A : Type 0} {looked : (F : Type 0 → Type 0) → F A → F Float} (same : (P : (B : Type 0) → ((F : Type 0 → Type 0) → F B → F Float) → Type 0) → P Float (λ F x. x) → P A looked) {f : Format} {s : FilterOf A} {c : Call} (t : Told f (looked FilterOf s) c) where
+  pub sent_back : {r : AnswerOf A} → r ≡ record { filter = s; refusal = t.told } → (t.told.number ≡ 0 → ⊥) → looked AnswerOf r ≡ answered (step f (looked FilterOf s) c)
+  sent_back e h = ap (looked AnswerOf) e ∙ seen_answer same s t.told ∙ turned_away t h
+
 -- ---- readings: of the first k numbers of w, which need only be v where they are not stale; j is k at sizes up to 8
 
 module _ (f : Format) (s : Filter) (c : Call) (k : ℕ) (stale : Bool) (b v w : List Float) where
@@ -100,3 +110,12 @@ module _ (f : Format) (s : Filter) (c : Call) (k : ℕ) (stale : Bool) (b v w : 
         e.1 ∙ ap (λ (o : Outcome (List Float)). over (or [] o) b) (counted f true s.sheet.n (λ (i : ℕ). lend b i) stale (λ (i : ℕ). []) (λ (i : ℕ). accepted (take i v)) h ∙ unless_stale f a _ _ (λ z. ap (λ (l : List Float). accepted (take k l)) (same z)))
             ∙ ap (λ (l : List Float). over l b) (both_ways f a (or []) (λ (o : Outcome Done). (stepped s o).reply.given) (take k w) d refl (λ x. refl) ∙ ap (λ (t : Stepped). t.reply.given) (sym is)),
       )
+
+-- ---- a plan that is passed on, by what it comes to
+
+module _ {f : Format} {s : Filter} {c : Call} (t : Told f s c) (z : t.told.number ≡ 0) {A : Type 0} (g : A → Done) (p : Plan A) (is : plan f (seen s) c ≡ mapped g p) where
+  pub comes_refused : {r : Refusal} → refused r ≡ run p → step f s c ≡ stayed s (verdict r)
+  comes_refused e = comes t z g p is ∙ ap (λ (o : Outcome A). stepped s (onward o (λ (a : A). accepted (g a)))) (sym e)
+
+  pub comes_made : {a : A} → accepted a ≡ run p → step f s c ≡ stepped s (accepted (g a))
+  comes_made e = comes t z g p is ∙ ap (λ (o : Outcome A). stepped s (onward o (λ (a : A). accepted (g a)))) (sym e)

@@ -2,13 +2,14 @@
 use Rattle.std.specs.Prelude.{ℕ, Bool, not, ◌&&◌, List, leb, length, Float}
 use Rattle.std.specs.Float.{Format}
 use Rattle.floats.specs.declared.Verdict.{Verdict}
-use Rattle.floats.specs.Refusal.{SIZE, SHORT, STAGE, RECORD, STALE, FRESH, KIND, PARAM, Outcome, refusal, unless, onward, nothing}
+use Rattle.floats.specs.declared.Refusal.TheVariants.{Size as SIZE, Short as SHORT, Stage as STAGE, Record as RECORD, Stale as STALE, Fresh as FRESH, Kind as KIND, Param as PARAM}
+use Rattle.floats.specs.Refusal.{Outcome, refusal, unless, onward, nothing}
 use Rattle.floats.specs.Search.{Input, searched}
 pub use Rattle.floats.specs.Tests.{every}
 use Rattle.angles.specs.Kinds.{is_plain, passes}
-use Rattle.angles.specs.declared.Kind.{Kind}
+use Rattle.angles.specs.Kinds.{Kind}
 use Rattle.sigma.specs.Weights.{weights_pass}
-use Rattle.sigma.specs.declared.Params.{Params}
+use Rattle.sigma.specs.Weights.{Params}
 
 -- 1: a number that has to lie in a range
 pub record Size : Type 0 where
@@ -56,7 +57,7 @@ long (of_numbers slice needs) = leb needs (length slice)
 long (of_bytes slice needs) = leb needs (length slice)
 
 abbrev pub passing : Format → Kind → Bool
-passing f k = passes f k.residual
+passing f k = passes f k
 
 abbrev pub fit : Format → Param → Bool
 fit f (by_params n p) = weights_pass f n p

@@ -8,9 +8,9 @@ use Rattle.floats.specs.Search.{Input, input}
 use Rattle.floats.specs.Numbers.{zeros}
 use Rattle.floats.specs.Fronts.{front}
 use Rattle.angles.specs.Kinds.{half_of}
-use Rattle.angles.specs.declared.Kind.{Kind}
+use Rattle.angles.specs.Kinds.{Kind}
 use Rattle.matrix.specs.Results.{Plan, finish, mapped}
-use Rattle.sigma.specs.declared.Params.{Params}
+use Rattle.sigma.specs.Weights.{Params}
 use Rattle.sigma.specs.Weights.{scale_of, w0m_of, weights_of}
 use Rattle.sigma.specs.Draw.{point_numbers, draw_plan}
 use Rattle.sigma.specs.Predict.{Moment, predict_plan}
@@ -19,11 +19,11 @@ use Rattle.correction.specs.Correct.{Head, apply_plan, given, weighted_head}
 use Rattle.correction.specs.Flat.{flat_head}
 use Rattle.filter.specs.declared.Stage.{Stage}
 use Rattle.filter.specs.declared.Stage.TheVariants.{Shut, Predicting, Correcting, PredictingStepped, CorrectingStepped}
-use Rattle.filter.specs.declared.Weighted.{Weighted}
-use Rattle.filter.specs.declared.Kept.{Kept}
-use Rattle.filter.specs.declared.Sheet.{Sheet}
-use Rattle.filter.specs.declared.Filter.{Filter}
-use Rattle.filter.specs.declared.measurement.Intake.{Intake}
+use Rattle.filter.specs.Types.{Weighted}
+use Rattle.filter.specs.Types.{Kept}
+use Rattle.filter.specs.Types.{Sheet}
+use Rattle.filter.specs.Types.{Filter}
+use Rattle.filter.specs.Types.{Intake}
 use Rattle.filter.specs.Asked.{Size, Lent, of_numbers, of_bytes, Param, by_params, by_kind, Asks}
 use Rattle.filter.specs.Records.{record_length, bytes_of}
 use Rattle.filter.specs.Filters.{is_shut, is_predicting, is_correcting, is_predicting_stepped, is_correcting_stepped, is_stepped, keeping, Writing, q_set, params_set, kinds_set, Setting, x_set, p_set, opened_prediction, opened_correction, opened_prediction_stepped, opened_correction_stepped, Change, writes, sets, closes, keeps, abandons, reads}

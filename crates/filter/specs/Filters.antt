@@ -1,15 +1,15 @@
 -- Filters: a filter is a sheet and a track. What a call may see of one, and the changes that an accepted call makes, to the sheet or to the track. A change says itself whatever it installs, so that nothing left over can reach what counts. Definitions only.
 use Rattle.std.specs.Prelude.{ℕ, Bool, true, false, ◌||◌, cond, List, [], Float}
 use Rattle.floats.specs.Numbers.{zeros}
-use Rattle.angles.specs.declared.Kind.{Kind}
-use Rattle.sigma.specs.declared.Params.{Params}
+use Rattle.angles.specs.Kinds.{Kind}
+use Rattle.sigma.specs.Weights.{Params}
 use Rattle.filter.specs.declared.Stage.{Stage}
 use Rattle.filter.specs.declared.Stage.TheVariants.{Shut, Predicting, Correcting, PredictingStepped, CorrectingStepped}
-use Rattle.filter.specs.declared.Weighted.{Weighted}
-use Rattle.filter.specs.declared.Kept.{Kept}
-use Rattle.filter.specs.declared.Sheet.{Sheet}
-use Rattle.filter.specs.declared.Track.{Track}
-use Rattle.filter.specs.declared.Filter.{Filter}
+use Rattle.filter.specs.Types.{Weighted}
+use Rattle.filter.specs.Types.{Kept}
+use Rattle.filter.specs.Types.{Sheet}
+use Rattle.filter.specs.Types.{Track}
+use Rattle.filter.specs.Types.{Filter}
 
 abbrev pub sheet : ℕ → List Float → Params → List Kind → Sheet
 sheet n q params kinds = record { n = n; q = q; params = params; kinds = kinds }

@@ -1,4 +1,5 @@
--- What a call asks, filters and their changes, the record of a filter, the table of calls, a measurement as it is lent, one step; New; load; point k of a list.
+-- The types at floats, what a call asks, filters and their changes, the record of a filter, the table of calls, a measurement as it is lent, one step; New; load; point k of a list.
+pub mod Types
 pub mod Asked
 pub mod Filters
 pub mod Records

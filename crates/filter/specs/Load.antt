@@ -2,15 +2,16 @@
 use Rattle.std.specs.Prelude.{ℕ, ◌+◌, ◌*◌, Bool, true, false, ◌&&◌, List, [], ◌∷◌, ◌++◌, leb, eqb, length, take, drop, get_or, replicate, Float}
 use Rattle.std.specs.Float.{Format}
 use Rattle.floats.specs.declared.Slice.TheVariants.{Lone}
-use Rattle.floats.specs.Refusal.{SHORT, Outcome, accepted, unless}
+use Rattle.floats.specs.declared.Refusal.TheVariants.{Short as SHORT}
+use Rattle.floats.specs.Refusal.{Outcome, accepted, unless}
 use Rattle.floats.specs.Search.{Input, input}
 use Rattle.floats.specs.Numbers.{zeros}
 use Rattle.floats.specs.Fronts.{over}
 use Rattle.angles.specs.Kinds.{plain, half_of}
-use Rattle.angles.specs.declared.Kind.{Kind}
+use Rattle.angles.specs.Kinds.{Kind}
 use Rattle.pieces.specs.Bytes.{number_at, kind_at, formed, read_each, all_true}
-use Rattle.filter.specs.declared.Filter.{Filter}
-use Rattle.filter.specs.declared.Answer.{Answer}
+use Rattle.filter.specs.Types.{Filter}
+use Rattle.filter.specs.Types.{Answer}
 use Rattle.filter.specs.Asked.{by_params, Asks, guarded}
 use Rattle.filter.specs.Filters.{sheet, filter}
 use Rattle.filter.specs.Records.{numbers, record_length}

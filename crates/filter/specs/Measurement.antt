@@ -4,7 +4,7 @@ use Rattle.floats.specs.declared.Verdict.{Verdict}
 use Rattle.floats.specs.Refusal.{Outcome, accepted, refusal, or}
 use Rattle.floats.specs.Numbers.{zeros}
 use Rattle.floats.specs.Search.{searched}
-use Rattle.filter.specs.declared.measurement.Intake.{Intake}
+use Rattle.filter.specs.Types.{Intake}
 use Rattle.filter.specs.Asked.{within, long, every, in_order}
 use Rattle.filter.specs.Calls.{sized, lent_measured, inputs_measured, measurement}
 

@@ -9,14 +9,14 @@ use Rattle.floats.specs.Search.{Input, input}
 use Rattle.floats.specs.Numbers.{plus_zero, zeros}
 use Rattle.floats.specs.Fronts.{front}
 use Rattle.angles.specs.Kinds.{plain}
-use Rattle.sigma.specs.declared.Params.{Params}
+use Rattle.sigma.specs.Weights.{Params}
 use Rattle.filter.specs.declared.Stage.TheVariants.{Shut}
-use Rattle.filter.specs.declared.Sheet.{Sheet}
-use Rattle.filter.specs.declared.Track.{Track}
-use Rattle.filter.specs.declared.Filter.{Filter}
-use Rattle.filter.specs.declared.Answer.{Answer}
-use Rattle.filter.specs.declared.new.NewSheet.{NewSheet}
-use Rattle.filter.specs.declared.new.NewTrack.{NewTrack}
+use Rattle.filter.specs.Types.{Sheet}
+use Rattle.filter.specs.Types.{Track}
+use Rattle.filter.specs.Types.{Filter}
+use Rattle.filter.specs.Types.{Answer}
+use Rattle.filter.specs.Types.{NewSheet}
+use Rattle.filter.specs.Types.{NewTrack}
 use Rattle.filter.specs.Asked.{Lent, by_params, Asks, guarded}
 use Rattle.filter.specs.Filters.{sheet, track, filter, nothing_kept}
 use Rattle.filter.specs.Calls.{lend, values_of, line}
@@ -30,8 +30,11 @@ abbrev pub fresh_track : List Float → List Float → Track
 fresh_track x p = track x p (zeros 17) (zeros 136) true Shut (zeros 17) (zeros 136) nothing_kept
 
 -- n = 0, every number +0, stale, nothing open
+abbrev pub empty_params : Params
+empty_params = record { alpha = plus_zero; beta = plus_zero; kappa = plus_zero }
+
 abbrev pub empty_sheet : Sheet
-empty_sheet = fresh_sheet 0 (zeros 64) (record { alpha = plus_zero; beta = plus_zero; kappa = plus_zero })
+empty_sheet = fresh_sheet 0 (zeros 64) empty_params
 
 abbrev pub empty_track : Track
 empty_track = fresh_track (zeros 8) (zeros 64)

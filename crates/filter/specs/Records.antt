@@ -1,7 +1,7 @@
 -- THE RECORD OF A FILTER (document 02, A8): the mark 57 50 (hex), n, x, P, Q, alpha, beta and kappa, then a kind for each state. Points, weights and the stale mark aren't in it. Definitions only.
 use Rattle.std.specs.Prelude.{ℕ, ◌+◌, ◌*◌, List, [], ◌∷◌, ◌++◌, take, Float}
 use Rattle.pieces.specs.Bytes.{number_bytes, kind_bytes, written}
-use Rattle.filter.specs.declared.Filter.{Filter}
+use Rattle.filter.specs.Types.{Filter}
 
 abbrev pub numbers_of : Filter → List Float
 numbers_of s =

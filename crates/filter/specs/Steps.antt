@@ -1,15 +1,15 @@
 -- One step of a filter: every contract of a call cites it. A refused call changes nothing and hands out nothing. Definitions only.
-use Rattle.std.specs.Prelude.{ℕ, Bool, true, cond, List, [], eqb, get_or, Float}
+use Rattle.std.specs.Prelude.{ℕ, Bool, true, List, [], get_or, Float}
 use Rattle.std.specs.Float.{Format}
 use Rattle.floats.specs.declared.Verdict.{Verdict}
 use Rattle.floats.specs.Refusal.{verdict, taken, Outcome, refused, accepted}
 use Rattle.floats.specs.Numbers.{plus_zero}
 use Rattle.matrix.specs.Results.{run}
-use Rattle.sigma.specs.declared.Params.{Params}
-use Rattle.sigma.specs.declared.Moments.{Moments}
-use Rattle.filter.specs.declared.Filter.{Filter}
-use Rattle.filter.specs.declared.Answer.{Answer}
-use Rattle.filter.specs.declared.ParamsRead.{ParamsRead}
+use Rattle.sigma.specs.Weights.{Params}
+use Rattle.sigma.specs.Predict.{Moment}
+use Rattle.filter.specs.Types.{Filter}
+use Rattle.filter.specs.Types.{Answer}
+use Rattle.filter.specs.Types.{ParamsRead}
 use Rattle.filter.specs.declared.StaleRead.{StaleRead}
 use Rattle.filter.specs.Asked.{guarded}
 use Rattle.filter.specs.Filters.{seen, closed_with, changed}
@@ -44,9 +44,9 @@ abbrev pub answered : Stepped → Answer
 answered t = record { filter = t.filter; refusal = t.reply.refusal }
 
 -- a close by what its steps have made: refused, or x and P set, with the points and the opened weights installed
-abbrev pub closed_by : Filter → List Float → Bool → Moments → Answer
-closed_by s points stale m =
-    record { filter = cond (eqb m.refusal.number 0) (closed_with s points stale m.x m.p) s; refusal = m.refusal }
+abbrev pub closed_by : Filter → List Float → Bool → Outcome Moment → Answer
+closed_by s points stale (refused r) = record { filter = s; refusal = verdict r }
+closed_by s points stale (accepted m) = record { filter = closed_with s points stale m.x m.p; refusal = taken }
 
 -- three numbers, or +0s where a reading is refused
 abbrev pub params_of : List Float → Params

@@ -1,5 +1,5 @@
 // What the calls test of sizes and stages, with no number in it, and the order of the refusals. None of the tests has a `requires`; one that goes by a size is right where the size is in range.
-ghost use Rattle.std.specs.Prelude.{◌≡◌, true, false, ◌&&◌, cond, ◌+◌, ◌*◌, leb};
+ghost use Rattle.std.specs.Prelude.{◌≡◌, true, false, ◌&&◌, cond, ◌+◌, ◌*◌, leb, ltb};
 ghost use Rattle.floats.specs.Refusal.{earlier, refusal, nothing};
 ghost use Rattle.filter.specs.Asked.{in_range, in_order};
 ghost use Rattle.filter.specs.Filters.{is_shut, is_predicting, is_correcting};
@@ -60,38 +60,20 @@ pub fn first_refusal(
 pub fn is_shut(s: Stage) -> bool
     ensures { result ≡ is_shut s }
 {
-    match s {
-        Stage::Shut => true,
-        Stage::Predicting => false,
-        Stage::Correcting => false,
-        Stage::PredictingStepped => false,
-        Stage::CorrectingStepped => false,
-    }
+    matches!(s, Stage::Shut)
 }
 
 // Of the whole-list way.
 pub fn is_predicting(s: Stage) -> bool
     ensures { result ≡ is_predicting s }
 {
-    match s {
-        Stage::Shut => false,
-        Stage::Predicting => true,
-        Stage::Correcting => false,
-        Stage::PredictingStepped => false,
-        Stage::CorrectingStepped => false,
-    }
+    matches!(s, Stage::Predicting)
 }
 
 pub fn is_correcting(s: Stage) -> bool
     ensures { result ≡ is_correcting s }
 {
-    match s {
-        Stage::Shut => false,
-        Stage::Predicting => false,
-        Stage::Correcting => true,
-        Stage::PredictingStepped => false,
-        Stage::CorrectingStepped => false,
-    }
+    matches!(s, Stage::Correcting)
 }
 
 // ---- 1
@@ -99,10 +81,7 @@ pub fn is_correcting(s: Stage) -> bool
 pub fn in_range(from: usize, to: usize, n: usize) -> bool
     ensures { result ≡ in_range from to n }
 {
-    if n < from {
-        return false;
-    }
-    n <= to
+    from <= n && n <= to
 }
 
 // Whether there are 1 to 8 states.
@@ -112,13 +91,11 @@ pub fn is_sized(n: usize) -> bool
     in_range(1, 8, n)
 }
 
-pub fn both(a: bool, b: bool) -> bool
-    ensures { result ≡ (a && b) }
+// Whether i is the index of one of 1 to 8 states.
+pub fn is_state(i: usize, n: usize) -> bool
+    ensures { result ≡ (in_range 1 8 n && ltb i n) }
 {
-    if a {
-        return b;
-    }
-    false
+    is_sized(n) && i < n
 }
 
 // ---- how many numbers are needed, at sizes up to 8
@@ -127,30 +104,19 @@ pub fn both(a: bool, b: bool) -> bool
 pub fn square(n: usize) -> usize
     ensures { result ≡ cond (leb n 8) (n * n) 0 }
 {
-    if n <= 8 {
-        return n * n;
-    }
-    0
+    if n <= 8 { n * n } else { 0 }
 }
 
 // The numbers of 2n+1 points of d.
 pub fn point_numbers(n: usize, d: usize) -> usize
     ensures { result ≡ cond (leb n 8 && leb d 8) (observed_numbers n d) 0 }
 {
-    if n <= 8 {
-        if d <= 8 {
-            return (n + n + 1) * d;
-        }
-    }
-    0
+    if n <= 8 && d <= 8 { (n + n + 1) * d } else { 0 }
 }
 
 // The index of the last point.
 pub fn last_point(n: usize) -> usize
     ensures { result ≡ cond (leb n 8) (n + n) 0 }
 {
-    if n <= 8 {
-        return n + n;
-    }
-    0
+    if n <= 8 { n + n } else { 0 }
 }

@@ -1,128 +1,154 @@
 // New: a filter from n, x, P, Q and the parameters, a track on a sheet; refused, the empty filter. Each part is made by itself, and several tracks may be put on one sheet.
 ghost use Rattle.std.specs.Prelude.{◌≡◌};
-ghost use Rattle.std.specs.Float.{binary64};
-ghost use Rattle.filter.specs.New.{fresh_sheet, fresh_track, from, new_sheet, new_track, new_answer, empty_sheet, empty_track, refused_answer, sooner};
+ghost use Rattle.filter.specs.Calls.{values_of};
+ghost use Rattle.filter.specs.New.{fresh_sheet, fresh_track, sheet_from, track_from, from, new_sheet, new_track, new_answer, empty_params, empty_sheet, empty_track, refused_answer, sooner};
 
 use crate::{Answer, Filter, Sheet, Stage, Track, checks, drawn, fronts, tests};
-use angles::{Kind, Residual};
-use floats::{Slice, Verdict};
+use angles::Kind;
+use floats::{Number, Slice, Verdict};
 use sigma::Params;
 
 // A new sheet with number and place; refused, the empty filter's.
-#[derive(Clone, Copy)]
-pub struct NewSheet {
+#[derive_where(Clone, Copy; T: Copy)]
+pub struct NewSheet<T> {
     pub refusal: Verdict,
-    pub sheet: Sheet,
+    pub sheet: Sheet<T>,
 }
 
 // A new track with number and place; refused, the empty filter's.
 #[derive(Clone, Copy)]
-pub struct NewTrack {
+pub struct NewTrack<T> {
     pub refusal: Verdict,
-    pub track: Track,
+    pub track: Track<T>,
 }
 
 // All kinds plain.
-fn fresh_sheet(n: usize, q: [f64; 64], params: Params) -> Sheet
-    ensures { result ≡ fresh_sheet n q params }
+fn fresh_sheet<T: Number>(n: usize, q: [T; 64], params: Params<T>) -> Sheet<T>
+    ensures { T.seen Sheet result ≡ fresh_sheet n (T.floats q) (T.seen Params params) }
 {
-    let plain = Kind {
-        residual: Residual::Plain,
-    };
     Sheet {
         n,
         q,
         params,
-        kinds: [plain; 8],
+        kinds: [Kind::Plain; 8],
     }
 }
 
 // Stale, nothing open; points, weights and scratch at +0.
-pub fn fresh_track(x: [f64; 8], p: [f64; 64]) -> Track
-    ensures { result ≡ fresh_track x p }
+pub fn fresh_track<T: Number>(x: [T; 8], p: [T; 64]) -> Track<T>
+    ensures { T.seen Track result ≡ fresh_track (T.floats x) (T.floats p) }
 {
-    let kept = drawn::nothing_kept();
     Track {
         x,
         p,
-        weights: [0.0; 17],
-        points: [0.0; 136],
+        weights: [T::ZERO; 17],
+        points: [T::ZERO; 136],
         stale: true,
         stage: Stage::Shut,
-        drawn_weights: [0.0; 17],
-        drawn_points: [0.0; 136],
-        kept,
+        drawn_weights: [T::ZERO; 17],
+        drawn_points: [T::ZERO; 136],
+        kept: drawn::nothing_kept(),
     }
 }
 
 // n = 0 and every number +0.
-pub fn empty_sheet() -> Sheet
-    ensures { result ≡ empty_sheet }
+pub fn empty_sheet<T: Number>() -> Sheet<T>
+    ensures { T.seen Sheet result ≡ empty_sheet }
 {
-    let params = Params {
-        alpha: 0.0,
-        beta: 0.0,
-        kappa: 0.0,
-    };
-    fresh_sheet(0, [0.0; 64], params)
+    fresh_sheet(0, [T::ZERO; 64], empty_params())
 }
 
-pub fn empty_track() -> Track
-    ensures { result ≡ empty_track }
+pub fn empty_params<T: Number>() -> Params<T>
+    ensures { T.seen Params result ≡ empty_params }
 {
-    fresh_track([0.0; 8], [0.0; 64])
-}
-
-// The empty filter, with number and place.
-pub fn refused(refusal: Verdict) -> Answer
-    ensures { result ≡ refused_answer refusal }
-{
-    let sheet = empty_sheet();
-    let track = empty_track();
-    Answer {
-        filter: Filter { sheet, track },
-        refusal,
+    Params {
+        alpha: T::ZERO,
+        beta: T::ZERO,
+        kappa: T::ZERO,
     }
 }
 
-impl Sheet {
-    pub fn new(n: usize, q: &[f64], params: Params) -> NewSheet
-        ensures { result ≡ new_sheet binary64 n q.now params }
+pub fn empty_track<T: Number>() -> Track<T>
+    ensures { T.seen Track result ≡ empty_track }
+{
+    fresh_track([T::ZERO; 8], [T::ZERO; 64])
+}
+
+// The empty filter, with number and place.
+pub fn refused<T: Number>(refusal: Verdict) -> Answer<T>
+    ensures { T.seen Answer result ≡ refused_answer refusal }
+{
+    let sheet = empty_sheet();
+    let track = empty_track();
+    Filter { sheet, track }.answer(refusal)
+}
+
+// What New says of a sheet; the values are those that the parameters bring in.
+fn sheet_refusal<T: Number>(n: usize, q: &[T], params: Params<T>, values: &[T]) -> Verdict
+    requires { T.floats values.now ≡ values_of (T.seen Params params) }
+    ensures { result ≡ (new_sheet T.format n (T.floats q.now) (T.seen Params params)).refusal }
+{
+    let k = checks::square(n);
+    let sized = checks::is_sized(n);
+    let in_noise = floats::first_bad(Slice::Noise, q, k);
+    let found = floats::next_bad(in_noise, Slice::Lone, values, 3);
+    let passing = tests::params_pass(n, params);
+    checks::first_refusal(true, sized, k <= q.len(), false, found, true, passing)
+}
+
+// A sheet of which it says 0.
+fn sheet_from<T: Number>(n: usize, q: &[T], params: Params<T>) -> Sheet<T>
+    requires { (new_sheet T.format n (T.floats q.now) (T.seen Params params)).refusal.number ≡ 0 }
+    ensures { T.seen Sheet result ≡ sheet_from n (T.floats q.now) (T.seen Params params) }
+{
+    fresh_sheet(n, fronts::filled(q, checks::square(n)), params)
+}
+
+impl<T: Number> Sheet<T> {
+    pub fn new(n: usize, q: &[T], params: Params<T>) -> NewSheet<T>
+        ensures { T.seen NewSheet result ≡ new_sheet T.format n (T.floats q.now) (T.seen Params params) }
     {
-        let k = checks::square(n);
-        let sized = checks::is_sized(n);
         let values = tests::values(params);
-        let in_noise = floats::first_bad(Slice::Noise, q, k);
-        let found = floats::next_bad(in_noise, Slice::Lone, &values, 3);
-        let passing = tests::params_pass(n, params);
-        let refusal = checks::first_refusal(true, sized, k <= q.len(), false, found, true, passing);
-        if refusal.number != 0 {
-            let sheet = empty_sheet();
-            return NewSheet { refusal, sheet };
-        }
-        let q = fronts::matrix(q, k);
-        let sheet = fresh_sheet(n, q, params);
+        let refusal = sheet_refusal(n, q, params, &values);
+        let sheet = if refusal.number == 0 {
+            sheet_from(n, q, params)
+        } else {
+            empty_sheet()
+        };
         NewSheet { refusal, sheet }
     }
 }
 
-impl Track {
-    pub fn new(n: usize, x: &[f64], p: &[f64]) -> NewTrack
-        ensures { result ≡ new_track binary64 n (from x.now p.now) }
+// What New says of a track.
+fn track_refusal<T: Number>(n: usize, x: &[T], p: &[T]) -> Verdict
+    ensures { result ≡ (new_track T.format n (from (T.floats x.now) (T.floats p.now))).refusal }
+{
+    let k = checks::square(n);
+    let sized = checks::is_sized(n);
+    let long = n <= x.len() && k <= p.len();
+    let in_state = floats::first_bad(Slice::State, x, n);
+    let found = floats::next_bad(in_state, Slice::Covariance, p, k);
+    checks::first_refusal(true, sized, long, false, found, true, true)
+}
+
+// A track of which it says 0.
+fn track_from<T: Number>(n: usize, x: &[T], p: &[T]) -> Track<T>
+    requires { (new_track T.format n (from (T.floats x.now) (T.floats p.now))).refusal.number ≡ 0 }
+    ensures { T.seen Track result ≡ track_from n (from (T.floats x.now) (T.floats p.now)) }
+{
+    fresh_track(fronts::filled(x, n), fronts::filled(p, checks::square(n)))
+}
+
+impl<T: Number> Track<T> {
+    pub fn new(n: usize, x: &[T], p: &[T]) -> NewTrack<T>
+        ensures { T.seen NewTrack result ≡ new_track T.format n (from (T.floats x.now) (T.floats p.now)) }
     {
-        let k = checks::square(n);
-        let sized = checks::is_sized(n);
-        let long = checks::both(n <= x.len(), k <= p.len());
-        let in_state = floats::first_bad(Slice::State, x, n);
-        let found = floats::next_bad(in_state, Slice::Covariance, p, k);
-        let refusal = checks::first_refusal(true, sized, long, false, found, true, true);
-        if refusal.number != 0 {
-            let track = empty_track();
-            return NewTrack { refusal, track };
-        }
-        let x = fronts::vector(x, n);
-        let p = fronts::matrix(p, k);
-        let track = fresh_track(x, p);
+        let refusal = track_refusal(n, x, p);
+        let track = if refusal.number == 0 {
+            track_from(n, x, p)
+        } else {
+            empty_track()
+        };
         NewTrack { refusal, track }
     }
 }
@@ -137,20 +163,18 @@ pub fn sooner(a: Verdict, b: Verdict) -> Verdict
     floats::earlier(a, b)
 }
 
-impl Filter {
-    pub fn new(n: usize, x: &[f64], p: &[f64], q: &[f64], params: Params) -> Answer
-        ensures { result ≡ new_answer binary64 n x.now p.now q.now params }
+impl<T: Number> Filter<T> {
+    pub fn new(n: usize, x: &[T], p: &[T], q: &[T], params: Params<T>) -> Answer<T>
+        ensures { T.seen Answer result ≡ new_answer T.format n (T.floats x.now) (T.floats p.now) (T.floats q.now) (T.seen Params params) }
     {
-        let a = Track::new(n, x, p);
-        let b = Sheet::new(n, q, params);
-        let of_track = a.refusal;
-        let of_sheet = b.refusal;
-        let refusal = sooner(of_track, of_sheet);
+        let values = tests::values(params);
+        let of_sheet = sheet_refusal(n, q, params, &values);
+        let refusal = sooner(track_refusal(n, x, p), of_sheet);
         if refusal.number != 0 {
             return refused(refusal);
         }
-        let sheet = b.sheet;
-        let track = a.track;
+        let sheet = sheet_from(n, q, params);
+        let track = track_from(n, x, p);
         Answer {
             filter: Filter { sheet, track },
             refusal,

@@ -3,7 +3,7 @@ use mathlib.Core.Path.{◌≡◌, refl, sym, ap, ◌∙◌}
 use mathlib.Core.Bool.{Bool, true, false, ◌&&◌, true≢false, false≢true}
 use mathlib.Core.List.{List, [], ◌∷◌, ◌++◌}
 use mathlib.Core.Logic.{◌≢◌}
-use Prim.Native.Nat.{ℕ, zero, suc, ◌+◌, ◌<◌, ◌≤◌}
+use Prim.Native.Nat.{ℕ, zero, suc, ◌+◌, ◌<◌, ◌≤◌, min}
 use native.Mathlib.Numerals.{add-one}
 use native.Mathlib.Omega.{arith}
 use lib.ListN.{length, take, get_or}
@@ -72,12 +72,15 @@ pub passed_none : {s : List Float} → Passed s 0
 unfolding all_finite
 passed_none = record { is = refl }
 
--- the rest of a list whose front has passed decides; what is past its end is nothing
-take_past : (k : ℕ) (s : List Float) → length s ≤ k → take k s ≡ s
-take_past zero [] h = refl
-take_past zero (x ∷ s) h = absurd (omega arith)
-take_past (suc k) [] h = refl
-take_past (suc k) (x ∷ s) h = ap (λ (l : List Float). x ∷ l) (take_past k s (omega arith))
+-- what a list is up to the lesser of its length and k
+take_least : (s : List Float) (i k : ℕ) → i ≤ min (length s) k → min (length s) k ≤ i → take i s ≡ take k s
+take_least [] zero zero h g = refl
+take_least [] zero (suc k) h g = refl
+take_least [] (suc i) k h g = absurd (omega arith)
+take_least (x ∷ s) zero zero h g = refl
+take_least (x ∷ s) zero (suc k) h g = absurd (omega arith)
+take_least (x ∷ s) (suc i) zero h g = absurd (omega arith)
+take_least (x ∷ s) (suc i) (suc k) h g = ap (λ (l : List Float). x ∷ l) (take_least s i k (omega arith) (omega arith))
 
 bad_in : (s : List Float) (i k : ℕ) → i < length s → i < k → finite (get_or s i nan) ≡ false → all_finite (take k s) ≡ false
 unfolding all_finite
@@ -98,9 +101,6 @@ module _ {s : List Float} {i : ℕ} (at : Passed s i) where
   pub passed_bad : (k : ℕ) → i < length s → i < k → finite (get_or s i nan) ≡ false → false ≡ all_finite (take k s)
   passed_bad k h g t = sym (bad_in s i k h g t)
 
-  -- past the list's end, and at k
-  pub passed_over : (k : ℕ) → length s ≤ i → i < k → true ≡ all_finite (take k s)
-  passed_over k h g = sym at.is ∙ ap all_finite (take_past i s h ∙ sym (take_past k s (omega arith)))
-
-  pub passed_end : (k : ℕ) → i ≡ k → true ≡ all_finite (take k s)
-  passed_end k e = sym at.is ∙ ap (λ (j : ℕ). all_finite (take j s)) e
+  -- at the list's end or at k, whichever comes first
+  pub passed_end : (k : ℕ) → i ≤ min (length s) k → min (length s) k ≤ i → true ≡ all_finite (take k s)
+  passed_end k h g = sym at.is ∙ ap all_finite (take_least s i k h g)

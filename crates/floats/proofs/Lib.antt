@@ -4,6 +4,7 @@ pub mod Search
 pub mod Tests
 pub mod Finite
 pub mod Fronts
+pub mod Numbers
 pub mod Units
 pub mod Grid
 pub mod Powers

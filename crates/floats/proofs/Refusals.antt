@@ -9,7 +9,9 @@ use lib.Dec.{eqb}
 use Rattle.floats.specs.declared.Slice.{Slice}
 use Rattle.floats.specs.declared.Slice.TheVariants.{State, Covariance, Noise, Points, Measurement, Lone}
 use Rattle.floats.specs.declared.Verdict.{Verdict}
-use Rattle.floats.specs.Refusal.{Refusal, SIZE, SHORT, STAGE, STALE, NUMBER, PARAM, PIVOT, INNOV, RANGE, KIND, FRESH, RECORD, slice_number, verdict, earlier, Outcome, refused, accepted, refusal, or, unless, onward}
+use Rattle.floats.specs.declared.Refusal.{Refusal}
+use Rattle.floats.specs.declared.Refusal.TheVariants.{Size as SIZE, Short as SHORT, Stage as STAGE, Stale as STALE, Number as NUMBER, Param as PARAM, Pivot as PIVOT, Innovation as INNOV, Range as RANGE, Kind as KIND, Fresh as FRESH, Record as RECORD}
+use Rattle.floats.specs.Refusal.{slice_number, verdict, earlier, Outcome, refused, accepted, refusal, or, unless, onward}
 
 abbrev pub number : Refusal → ℕ
 number r = (verdict r).number

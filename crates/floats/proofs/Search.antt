@@ -9,7 +9,9 @@ use lib.Ieee.{Float, nan}
 use lib.Ieee.Scale.{finite}
 use Rattle.floats.specs.declared.Slice.{Slice}
 use Rattle.floats.specs.declared.Verdict.{Verdict}
-use Rattle.floats.specs.Refusal.{Refusal, NUMBER, verdict, taken, earlier, Outcome, refused, accepted, refusal, unless, onward, nothing}
+use Rattle.floats.specs.declared.Refusal.{Refusal}
+use Rattle.floats.specs.declared.Refusal.TheVariants.{Number as NUMBER}
+use Rattle.floats.specs.Refusal.{verdict, taken, earlier, Outcome, refused, accepted, refusal, unless, onward, nothing}
 use Rattle.floats.specs.Numbers.{all_finite}
 use Rattle.floats.specs.Search.{Input, input, searched_from, searched}
 use Rattle.floats.proofs.Refusals.{number, slice_above, number_above, refused_never, earlier_onward}

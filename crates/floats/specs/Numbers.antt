@@ -8,6 +8,10 @@ use Rattle.std.specs.Float.Ieee.Scale.{finite}
 abbrev pub plus_zero : Float
 plus_zero = fin false 0 (pos 0)
 
+-- 1, in any format
+abbrev pub one : Float
+one = fin false 1 (pos 0)
+
 -- k places that hold +0
 unfoldable pub zeros : ℕ → List Float
 zeros k = replicate k plus_zero

@@ -3,12 +3,12 @@ use Rattle.std.specs.Prelude.{ℕ, Bool, true, cond, eqb}
 use Rattle.floats.specs.declared.Slice.{Slice}
 use Rattle.floats.specs.declared.Slice.TheVariants.{State, Covariance, Noise, Points, Measurement, Lone}
 use Rattle.floats.specs.declared.Verdict.{Verdict}
-
+use Rattle.std.specs.Prelude.{Result}
 -- the table: a bad number by its slice and its place there, a bad pivot by its row
-pub data Refusal : Type 0 where
-  SIZE SHORT STAGE STALE PARAM RANGE KIND FRESH RECORD : Refusal
-  NUMBER : Slice → ℕ → Refusal
-  PIVOT INNOV : ℕ → Refusal
+use Rattle.floats.specs.declared.Refusal.{Refusal}
+use Rattle.floats.specs.declared.Refusal.TheVariants.{Size as SIZE, Short as SHORT, Stage as STAGE, Stale as STALE, Number as NUMBER, Param as PARAM, Pivot as PIVOT, Innovation as INNOV, Range as RANGE, Kind as KIND, Fresh as FRESH, Record as RECORD}
+-- refused, which gives nothing; or accepted, with what it gives
+pub use Rattle.std.specs.Prelude.{Ok as accepted, Err as refused}
 
 -- a bad number by its slice: state, covariance, noise (Q, R), points, measurement, lone value
 abbrev pub slice_number : Slice → ℕ
@@ -50,10 +50,9 @@ taken = placeless 0
 abbrev pub earlier : Verdict → Verdict → Verdict
 earlier a b = cond (eqb a.number 0) b a
 
--- refused, which gives nothing; or accepted, with what it gives
-pub data Outcome (A : Type 0) : Type 0 where
-  refused : Refusal → Outcome A
-  accepted : A → Outcome A
+-- what a call or a step comes to
+abbrev pub Outcome : Type 0 → Type 0
+Outcome A = Result A Refusal
 
 module _ {A : Type 0} where
   -- the number and the place

@@ -2,7 +2,8 @@
 use Rattle.std.specs.Prelude.{ℕ, ◌+◌, Bool, List, [], ◌∷◌, Float}
 use Rattle.std.specs.Float.Ieee.Scale.{finite}
 use Rattle.floats.specs.declared.Slice.{Slice}
-use Rattle.floats.specs.Refusal.{NUMBER, Outcome, unless, onward, nothing}
+use Rattle.floats.specs.declared.Refusal.TheVariants.{Number as NUMBER}
+use Rattle.floats.specs.Refusal.{Outcome, unless, onward, nothing}
 
 -- a slice by its name, with those of its numbers that come in
 pub record Input : Type 0 where

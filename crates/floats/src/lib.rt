@@ -3,12 +3,16 @@
 
 ghost use Rattle.std.specs.Prelude.{◌≡◌, take};
 ghost use Rattle.std.specs.Float.Ieee.Scale.{finite};
-ghost use Rattle.floats.specs.Refusal.{slice_number, placeless, earlier, refusal};
+ghost use Rattle.floats.specs.Refusal.{slice_number, verdict, placeless, earlier, refusal};
 ghost use Rattle.floats.specs.Search.{input, searched};
 ghost use Rattle.floats.specs.Numbers.{all_finite, above_zero};
 
+mod number;
+
+pub use number::Number;
+
 // What the numbers that come in are, in the order in which they are searched; but New of a pair takes x and P of the second right after those of the first, and the number doesn't tell whose. The first bad one of a slice is told by its place there, from 0.
-#[derive(Clone, Copy)]
+#[derive(Clone, Copy, Debug, PartialEq, Eq)]
 pub enum Slice {
     // 51: x
     State,
@@ -24,6 +28,23 @@ pub enum Slice {
     Lone,
 }
 
+// Why a call is refused, as documents 01 and 02 have it in their tables: a bad number by its slice and its place there, a bad pivot by its row.
+#[derive(Clone, Copy, Debug, PartialEq, Eq)]
+pub enum Refusal {
+    Size,
+    Short,
+    Stage,
+    Stale,
+    Number(Slice, usize),
+    Param,
+    Pivot(usize),
+    Innovation(usize),
+    Range,
+    Kind,
+    Fresh,
+    Record,
+}
+
 // What every answer says: 0 or the number of a refusal, and the place that the refusal tells, else 0.
 #[derive(Clone, Copy)]
 pub struct Verdict {
@@ -32,39 +53,27 @@ pub struct Verdict {
 }
 
 // Whether x is neither a NaN nor an infinity.
-pub fn is_finite(x: f64) -> bool
-    ensures { result ≡ finite x }
+pub fn is_finite<T: Number>(x: T) -> bool
+    ensures { result ≡ finite (T.float x) }
 {
-    let top = 1.0 / 0.0;
-    if x < top {
-        return -top < x;
-    }
-    false
+    -T::INFINITY < x && x < T::INFINITY
 }
 
 // Whether x is finite and above 0.
-pub fn is_above_zero(x: f64) -> bool
-    ensures { result ≡ above_zero x }
+pub fn is_above_zero<T: Number>(x: T) -> bool
+    ensures { result ≡ above_zero (T.float x) }
 {
-    if is_finite(x) {
-        return 0.0 < x;
-    }
-    false
+    is_finite(x) && T::ZERO < x
 }
 
 // Whether the first k numbers of s are all finite; of an s that is shorter, whether all of it is.
-pub fn all_finite(s: &[f64], k: usize) -> bool
-    ensures { result ≡ all_finite (take k s.now) }
+pub fn all_finite<T: Number>(s: &[T], k: usize) -> bool
+    ensures { result ≡ all_finite (take k (T.floats s.now)) }
 {
-    let mut i = 0usize;
-    while i < k {
-        if i >= s.len() {
-            return true;
-        }
-        if !is_finite(s[i]) {
+    for x in &s[..s.len().min(k)] {
+        if !is_finite(*x) {
             return false;
         }
-        i += 1;
     }
     true
 }
@@ -102,29 +111,55 @@ pub fn slice_number(s: Slice) -> u8
     }
 }
 
+impl Refusal {
+    // Its number in the table, and the place that it tells, else 0.
+    pub fn verdict(self) -> Verdict
+        ensures { result ≡ verdict self }
+    {
+        match self {
+            Refusal::Size => placeless(1),
+            Refusal::Short => placeless(2),
+            Refusal::Stage => placeless(3),
+            Refusal::Stale => placeless(4),
+            Refusal::Number(slice, place) => Verdict {
+                number: slice_number(slice),
+                place,
+            },
+            Refusal::Param => placeless(6),
+            Refusal::Pivot(row) => Verdict {
+                number: 7,
+                place: row,
+            },
+            Refusal::Innovation(row) => Verdict {
+                number: 8,
+                place: row,
+            },
+            Refusal::Range => placeless(9),
+            Refusal::Kind => placeless(10),
+            Refusal::Fresh => placeless(11),
+            Refusal::Record => placeless(12),
+        }
+    }
+}
+
 // ---- the search
 
 // The search of the first k numbers of s, or of all where s is shorter: the first that isn't finite, by its slice and its place.
-pub fn first_bad(slice: Slice, s: &[f64], k: usize) -> Verdict
-    ensures { result ≡ refusal (searched (input slice (take k s.now))) }
+pub fn first_bad<T: Number>(slice: Slice, s: &[T], k: usize) -> Verdict
+    ensures { result ≡ refusal (searched (input slice (take k (T.floats s.now)))) }
 {
-    let mut place = 0usize;
-    while place < k {
-        if place >= s.len() {
-            return placeless(0);
-        }
-        if !is_finite(s[place]) {
+    for (place, x) in s[..s.len().min(k)].iter().enumerate() {
+        if !is_finite(*x) {
             let number = slice_number(slice);
             return Verdict { number, place };
         }
-        place += 1;
     }
     placeless(0)
 }
 
 // The search goes on in another slice, unless it has found something.
-pub fn next_bad(found: Verdict, slice: Slice, s: &[f64], k: usize) -> Verdict
-    ensures { result ≡ earlier found (refusal (searched (input slice (take k s.now)))) }
+pub fn next_bad<T: Number>(found: Verdict, slice: Slice, s: &[T], k: usize) -> Verdict
+    ensures { result ≡ earlier found (refusal (searched (input slice (take k (T.floats s.now))))) }
 {
     if found.number != 0 {
         return found;

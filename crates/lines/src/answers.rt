@@ -1,22 +1,22 @@
 // The answers, line by line, put after the bytes of out that are used. Each hands back how many are used then, and what is held where the call is on it.
 ghost use Rattle.std.specs.Prelude.{◌≡◌};
 
-use crate::held;
-use crate::held::{Done, Held};
-use angles::{Kind, Residual};
+use crate::subject::{Done, Subject};
+use angles::Kind;
 use filter::{Filter, Kept, checks};
 use floats::Verdict;
 use sigma::Params;
+use words::Worded;
 
 // What is held, and how many bytes of answers wait.
 #[derive(Clone, Copy)]
-pub struct Turn {
-    pub held: Held,
+pub struct Turn<S> {
+    pub held: S,
     pub used: usize,
 }
 
 // A line that is no call: it changes nothing.
-pub fn bad(held: Held, out: &mut [u8], used: usize) -> Turn
+pub fn bad<S: Copy>(held: S, out: &mut [u8], used: usize) -> Turn<S>
     ensures { result.held ≡ held }
 {
     Turn {
@@ -26,30 +26,26 @@ pub fn bad(held: Held, out: &mut [u8], used: usize) -> Turn
 }
 
 // Number and place, alone.
-pub fn number(a: Done, out: &mut [u8], used: usize) -> Turn
+pub fn number<S: Copy>(a: Done<S>, out: &mut [u8], used: usize) -> Turn<S>
     ensures { result.held ≡ a.held }
 {
-    let refusal = a.refusal;
-    let at = script::put_verdict(out, used, refusal);
-    let held = a.held;
+    let at = script::put_verdict(out, used, a.refusal);
     Turn {
-        held,
+        held: a.held,
         used: script::put(out, at, b"\n"),
     }
 }
 
 // Number and place, and all of a lent buffer.
-pub fn buffer(a: Done, lent: &[f64], out: &mut [u8], used: usize) -> Turn
+pub fn buffer<T: Worded, S: Copy>(a: Done<S>, lent: &[T], out: &mut [u8], used: usize) -> Turn<S>
     ensures { result.held ≡ a.held }
 {
-    let refusal = a.refusal;
-    let at = script::put_verdict(out, used, refusal);
+    let at = script::put_verdict(out, used, a.refusal);
     let at = script::put(out, at, b" ");
     let at = script::put_decimal(out, at, lent.len() as u64);
     let at = script::put_numbers(out, at, lent, lent.len());
-    let held = a.held;
     Turn {
-        held,
+        held: a.held,
         used: script::put(out, at, b"\n"),
     }
 }
@@ -63,64 +59,53 @@ pub fn bytes(refusal: Verdict, lent: &[u8], out: &mut [u8], used: usize) -> usiz
     script::put(out, at, b"\n")
 }
 
-// A label, and the numbers of an array of a filter: its states, a matrix, the first two weights, the first k of a point list.
-fn put_states(out: &mut [u8], used: usize, label: &[u8], x: &[f64; 8], n: usize) -> usize {
+// A label, and the first k of some numbers.
+fn put_labelled<T: Worded>(
+    out: &mut [u8],
+    used: usize,
+    label: &[u8],
+    numbers: &[T],
+    k: usize,
+) -> usize {
     let at = script::put(out, used, label);
-    script::put_numbers(out, at, x, n)
+    script::put_numbers(out, at, numbers, k)
 }
 
-fn put_matrix(out: &mut [u8], used: usize, label: &[u8], p: &[f64; 64], n: usize) -> usize {
-    let at = script::put(out, used, label);
-    script::put_numbers(out, at, p, checks::square(n))
-}
-
-fn put_weights(out: &mut [u8], used: usize, label: &[u8], weights: &[f64; 17]) -> usize {
-    let at = script::put(out, used, label);
-    script::put_numbers(out, at, weights, 2)
-}
-
-fn put_points(out: &mut [u8], used: usize, label: &[u8], points: &[f64; 136], k: usize) -> usize {
-    let at = script::put(out, used, label);
-    script::put_numbers(out, at, points, k)
+// Of a filter: x and P.
+pub fn put_moments<T: Worded>(out: &mut [u8], used: usize, filter: Filter<T>) -> usize {
+    let n = filter.sheet.n;
+    let at = put_labelled(out, used, b" x", &filter.track.x, n);
+    put_labelled(out, at, b" P", &filter.track.p, checks::square(n))
 }
 
 // A close: number and place, and where accepted x and P.
-pub fn close(a: Done, out: &mut [u8], used: usize) -> Turn
+pub fn close<S: Subject>(a: Done<S>, out: &mut [u8], used: usize) -> Turn<S>
     ensures { result.held ≡ a.held }
 {
-    let refusal = a.refusal;
-    if refusal.number != 0 {
+    if a.refusal.number != 0 {
         return number(a, out, used);
     }
-    let held = a.held;
-    let filter = held::shown(held);
-    let n = filter.sheet.n;
-    let x = filter.track.x;
-    let p = filter.track.p;
-    let at = script::put_verdict(out, used, refusal);
-    let at = put_states(out, at, b" x", &x, n);
-    let at = put_matrix(out, at, b" P", &p, n);
+    let at = script::put_verdict(out, used, a.refusal);
+    let at = a.held.put_moments(out, at);
     Turn {
-        held,
+        held: a.held,
         used: script::put(out, at, b"\n"),
     }
 }
 
-fn put_params(out: &mut [u8], used: usize, params: Params) -> usize {
+fn put_params<T: Worded>(out: &mut [u8], used: usize, params: Params<T>) -> usize {
     let at = script::put_number(out, used, params.alpha);
     let at = script::put_number(out, at, params.beta);
     script::put_number(out, at, params.kappa)
 }
 
 // Number and place, and the parameters.
-pub fn params(held: Held, out: &mut [u8], used: usize) -> Turn
+pub fn params<S: Subject>(held: S, out: &mut [u8], used: usize) -> Turn<S>
     ensures { result.held ≡ held }
 {
-    let read = held::read_params(held);
-    let refusal = read.refusal;
-    let at = script::put_verdict(out, used, refusal);
-    let given = read.params;
-    let at = put_params(out, at, given);
+    let read = held.read_params();
+    let at = script::put_verdict(out, used, read.refusal);
+    let at = put_params(out, at, read.params);
     Turn {
         held,
         used: script::put(out, at, b"\n"),
@@ -128,12 +113,11 @@ pub fn params(held: Held, out: &mut [u8], used: usize) -> Turn
 }
 
 // Number and place, and the stale mark.
-pub fn stale(held: Held, out: &mut [u8], used: usize) -> Turn
+pub fn stale<S: Subject>(held: S, out: &mut [u8], used: usize) -> Turn<S>
     ensures { result.held ≡ held }
 {
-    let read = held::read_stale(held);
-    let refusal = read.refusal;
-    let at = script::put_verdict(out, used, refusal);
+    let read = held.read_stale();
+    let at = script::put_verdict(out, used, read.refusal);
     let at = script::put_bit(out, at, read.stale);
     Turn {
         held,
@@ -142,7 +126,13 @@ pub fn stale(held: Held, out: &mut [u8], used: usize) -> Turn
 }
 
 // Number and place, where the part starts in its list, its length, and its numbers.
-pub fn point(refusal: Verdict, start: usize, part: &[f64], out: &mut [u8], used: usize) -> usize {
+pub fn point<T: Worded>(
+    refusal: Verdict,
+    start: usize,
+    part: &[T],
+    out: &mut [u8],
+    used: usize,
+) -> usize {
     let at = script::put_verdict(out, used, refusal);
     let at = script::put(out, at, b" ");
     let at = script::put_decimal(out, at, start as u64);
@@ -153,85 +143,87 @@ pub fn point(refusal: Verdict, start: usize, part: &[f64], out: &mut [u8], used:
 }
 
 // Number and place, and a value.
-pub fn value(refusal: Verdict, x: f64, out: &mut [u8], used: usize) -> usize {
+pub fn value<T: Worded>(refusal: Verdict, x: T, out: &mut [u8], used: usize) -> usize {
     let at = script::put_verdict(out, used, refusal);
     let at = script::put_number(out, at, x);
     script::put(out, at, b"\n")
 }
 
-fn put_kind(out: &mut [u8], used: usize, k: Kind) -> usize {
-    let residual = k.residual;
-    match residual {
-        Residual::Plain => script::put(out, used, b" p"),
-        Residual::Turn(h) => {
+fn put_kind<T: Worded>(out: &mut [u8], used: usize, k: Kind<T>) -> usize {
+    match k {
+        Kind::Plain => script::put(out, used, b" p"),
+        Kind::Turn(h) => {
             let at = script::put(out, used, b" t");
             script::put_number(out, at, h)
         }
     }
 }
 
-fn put_kinds(out: &mut [u8], used: usize, kinds: [Kind; 8], n: usize) -> usize {
+fn put_kinds<T: Worded>(out: &mut [u8], used: usize, kinds: &[Kind<T>], n: usize) -> usize {
     let mut at = used;
-    let mut i = 0usize;
-    while i < n {
-        if i >= 8 {
-            return at;
-        }
-        at = put_kind(out, at, kinds[i]);
-        i += 1;
+    for k in &kinds[..n.min(kinds.len())] {
+        at = put_kind(out, at, *k);
     }
     at
 }
 
 // Of a filter: its size, x, P and Q.
-fn put_values(out: &mut [u8], used: usize, filter: Filter) -> usize {
+fn put_values<T: Worded>(out: &mut [u8], used: usize, filter: Filter<T>) -> usize {
     let n = filter.sheet.n;
-    let x = filter.track.x;
-    let p = filter.track.p;
-    let q = filter.sheet.q;
     let at = script::put(out, used, b"0 0 n ");
     let at = script::put_decimal(out, at, n as u64);
-    let at = put_states(out, at, b" x", &x, n);
-    let at = put_matrix(out, at, b" P", &p, n);
-    put_matrix(out, at, b" Q", &q, n)
+    let at = put_moments(out, at, filter);
+    put_labelled(out, at, b" Q", &filter.sheet.q, checks::square(n))
 }
 
 // Of a filter: its parameters and kinds.
-fn put_settings(out: &mut [u8], used: usize, filter: Filter) -> usize {
-    let n = filter.sheet.n;
-    let given = filter.sheet.params;
-    let kinds = filter.sheet.kinds;
+fn put_settings<T: Worded>(out: &mut [u8], used: usize, filter: Filter<T>) -> usize {
+    let sheet = filter.sheet;
     let at = script::put(out, used, b" par");
-    let at = put_params(out, at, given);
+    let at = put_params(out, at, sheet.params);
     let at = script::put(out, at, b" kinds");
-    put_kinds(out, at, kinds, n)
+    put_kinds(out, at, &sheet.kinds, sheet.n)
 }
 
-// Of a filter: its weights, points and stale mark.
-fn put_current(out: &mut [u8], used: usize, filter: Filter) -> usize {
+// Of a filter: its first two weights, points and stale mark.
+fn put_current<T: Worded>(out: &mut [u8], used: usize, filter: Filter<T>) -> usize {
     let n = filter.sheet.n;
-    let weights = filter.track.weights;
-    let points = filter.track.points;
-    let at = put_weights(out, used, b" w", &weights);
-    let at = put_points(out, at, b" pts", &points, checks::point_numbers(n, n));
+    let at = put_labelled(out, used, b" w", &filter.track.weights, 2);
+    let at = put_labelled(
+        out,
+        at,
+        b" pts",
+        &filter.track.points,
+        checks::point_numbers(n, n),
+    );
     let at = script::put(out, at, b" stale");
     script::put_bit(out, at, filter.track.stale)
 }
 
 // Of a filter: what is open, and what that has drawn.
-fn put_drawn(out: &mut [u8], used: usize, filter: Filter) -> usize {
+fn put_drawn<T: Worded>(out: &mut [u8], used: usize, filter: Filter<T>) -> usize {
     let n = filter.sheet.n;
-    let track = filter.track;
-    let stage = track.stage;
-    let weights = track.drawn_weights;
-    let points = track.drawn_points;
-    let at = script::put_stage(out, used, stage);
-    let at = put_weights(out, at, b" dw", &weights);
-    put_points(out, at, b" dpts", &points, checks::point_numbers(n, n))
+    let at = script::put_stage(out, used, filter.track.stage);
+    let at = put_labelled(out, at, b" dw", &filter.track.drawn_weights, 2);
+    put_labelled(
+        out,
+        at,
+        b" dpts",
+        &filter.track.drawn_points,
+        checks::point_numbers(n, n),
+    )
+}
+
+// Of a filter: the used places of all but what a stepped call keeps.
+pub fn put_filter<T: Worded>(out: &mut [u8], used: usize, filter: Filter<T>) -> usize {
+    let at = put_values(out, used, filter);
+    let at = put_settings(out, at, filter);
+    let at = put_current(out, at, filter);
+    put_drawn(out, at, filter)
 }
 
 // How many numbers the images so far have: n each, or in a correction the m that the first has named.
-fn image_numbers(n: usize, kept: Kept) -> usize {
+fn image_numbers<T: Copy>(n: usize, kept: Kept<T>) -> usize {
     if kept.m == 0 {
         return script::times(kept.at, n);
     }
@@ -239,7 +231,7 @@ fn image_numbers(n: usize, kept: Kept) -> usize {
 }
 
 // How far a stepped call is, whether the point that is due has been asked for, and its m.
-fn put_progress(out: &mut [u8], used: usize, kept: Kept) -> usize {
+fn put_progress<T: Copy>(out: &mut [u8], used: usize, kept: Kept<T>) -> usize {
     let at = script::put(out, used, b" at ");
     let at = script::put_decimal(out, at, kept.at as u64);
     let at = script::put(out, at, b" asked");
@@ -249,27 +241,20 @@ fn put_progress(out: &mut [u8], used: usize, kept: Kept) -> usize {
 }
 
 // Of a filter: which way a call is open, and what a stepped one keeps.
-fn put_kept(out: &mut [u8], used: usize, filter: Filter) -> usize {
-    let n = filter.sheet.n;
+pub fn put_kept<T: Worded>(out: &mut [u8], used: usize, filter: Filter<T>) -> usize {
     let track = filter.track;
-    let stage = track.stage;
     let kept = track.kept;
-    let images = kept.images;
-    let at = script::put_way(out, used, stage);
+    let k = image_numbers(filter.sheet.n, kept);
+    let at = script::put_way(out, used, track.stage);
     let at = put_progress(out, at, kept);
-    put_points(out, at, b" img", &images, image_numbers(n, kept))
+    put_labelled(out, at, b" img", &kept.images, k)
 }
 
 // All of a filter, the used places only.
-pub fn dump(held: Held, out: &mut [u8], used: usize) -> Turn
+pub fn dump<S: Subject>(held: S, out: &mut [u8], used: usize) -> Turn<S>
     ensures { result.held ≡ held }
 {
-    let filter = held::shown(held);
-    let at = put_values(out, used, filter);
-    let at = put_settings(out, at, filter);
-    let at = put_current(out, at, filter);
-    let at = put_drawn(out, at, filter);
-    let at = put_kept(out, at, filter);
+    let at = held.put_all(out, used);
     Turn {
         held,
         used: script::put(out, at, b"\n"),

@@ -1,7 +1,8 @@
-// What the calls of a script are on, the current filter and the current pair, and each call on the filter or on a side.
+// What the f64 calls of a script are on, the current filter and the current pair, and each call on the filter or on a side.
 ghost use Rattle.std.specs.Prelude.{◌≡◌};
 
-use crate::solo;
+use crate::subject::{Done, Subject};
+use crate::{answers, solo};
 use angles::Kind;
 use filter::{Answer, Filter, ParamsRead, StaleRead};
 use floats::Verdict;
@@ -12,7 +13,7 @@ use sigma::Params;
 // What is held, and whose call the line is.
 #[derive(Clone, Copy)]
 pub struct Held {
-    pub filter: Filter,
+    pub filter: Filter<f64>,
     pub pair: Pair,
     pub whose: Whose,
 }
@@ -24,45 +25,36 @@ pub enum Whose {
     On(Side),
 }
 
-// What a call has left, with the answer's number and place.
-#[derive(Clone, Copy)]
-pub struct Done {
-    pub held: Held,
-    pub refusal: Verdict,
-}
-
 // Another's call is next.
 pub fn turned(held: Held, whose: Whose) -> Held
     ensures { result ≡ record { filter = held.filter; pair = held.pair; whose = whose } }
 {
-    let filter = held.filter;
-    let pair = held.pair;
-    Held {
-        filter,
-        pair,
-        whose,
-    }
+    Held { whose, ..held }
 }
 
 // A call on one of the two leaves the other.
-pub fn alone(held: Held, a: Answer) -> Done
+pub fn alone(held: Held, a: Answer<f64>) -> Done<Held>
     ensures { result ≡ record { held = record { filter = a.filter; pair = held.pair; whose = held.whose }; refusal = a.refusal } }
 {
-    let mut held = held;
-    let filter = a.filter;
-    let refusal = a.refusal;
-    held.filter = filter;
-    Done { held, refusal }
+    Done {
+        held: Held {
+            filter: a.filter,
+            ..held
+        },
+        refusal: a.refusal,
+    }
 }
 
-pub fn paired(held: Held, a: PairAnswer) -> Done
+pub fn paired(held: Held, a: PairAnswer) -> Done<Held>
     ensures { result ≡ record { held = record { filter = held.filter; pair = a.pair; whose = held.whose }; refusal = a.refusal } }
 {
-    let mut held = held;
-    let pair = a.pair;
-    let refusal = a.refusal;
-    held.pair = pair;
-    Done { held, refusal }
+    Done {
+        held: Held {
+            pair: a.pair,
+            ..held
+        },
+        refusal: a.refusal,
+    }
 }
 
 // A reading leaves the pair.
@@ -72,29 +64,14 @@ fn read(pair: Pair, refusal: Verdict) -> PairAnswer
     PairAnswer { pair, refusal }
 }
 
-// The filter, or a side with the sheet.
-pub fn shown(held: Held) -> Filter {
-    let pair = held.pair;
-    let sheet = pair.sheet;
-    let first = pair.first;
-    let second = pair.second;
-    let whose = held.whose;
-    match whose {
-        Whose::Alone => held.filter,
-        Whose::On(side) => match side {
-            Side::First => Filter {
-                sheet,
-                track: first,
-            },
-            Side::Second => Filter {
-                sheet,
-                track: second,
-            },
-        },
+// What a call does that is lent a list: imagep, or one that any filter has.
+fn own_list(name: Name, filter: Filter<f64>, list: &[f64]) -> Answer<f64> {
+    match name {
+        Name::ImagePrediction => stepped::image_prediction(filter, list),
+        _ => solo::with_list(name, filter, list),
     }
 }
 
-// What a call does that is lent a list.
 fn side_list(name: Name, pair: Pair, side: Side, list: &[f64]) -> PairAnswer {
     match name {
         Name::SetX => pair.set_x(side, list),
@@ -105,17 +82,14 @@ fn side_list(name: Name, pair: Pair, side: Side, list: &[f64]) -> PairAnswer {
     }
 }
 
-pub fn with_list(name: Name, held: Held, list: &[f64]) -> Done {
-    let filter = held.filter;
-    let pair = held.pair;
-    let whose = held.whose;
-    match whose {
-        Whose::Alone => alone(held, solo::with_list(name, filter, list)),
-        Whose::On(side) => paired(held, side_list(name, pair, side, list)),
+// What a reading does, and any call that is lent a buffer: ask, or one that any filter has.
+fn own_buffer(name: Name, filter: Filter<f64>, buffer: &mut [f64]) -> Answer<f64> {
+    match name {
+        Name::Ask => stepped::ask(filter, buffer),
+        _ => solo::with_buffer(name, filter, buffer),
     }
 }
 
-// What a reading does, and any call that is lent a buffer.
 fn side_reading(name: Name, pair: Pair, side: Side, buffer: &mut [f64]) -> Verdict {
     match name {
         Name::ReadX => pair.read_x(side, buffer),
@@ -134,17 +108,23 @@ fn side_buffer(name: Name, pair: Pair, side: Side, buffer: &mut [f64]) -> PairAn
     }
 }
 
-pub fn with_buffer(name: Name, held: Held, buffer: &mut [f64]) -> Done {
-    let filter = held.filter;
-    let pair = held.pair;
-    let whose = held.whose;
-    match whose {
-        Whose::Alone => alone(held, solo::with_buffer(name, filter, buffer)),
-        Whose::On(side) => paired(held, side_buffer(name, pair, side, buffer)),
+// The closes of a correction; a stepped one has no observed points.
+fn own_close(
+    name: Name,
+    filter: Filter<f64>,
+    m: usize,
+    z: &[f64],
+    r: &[f64],
+    kinds: [Kind<f64>; 4],
+    observed: &[f64],
+) -> Answer<f64> {
+    match name {
+        Name::CloseCorrectionStepped => stepped::close_correction(filter, m, z, r, kinds),
+        Name::CloseCorrectionFlatStepped => stepped::close_correction_flat(filter, m, z, r),
+        _ => solo::with_measurement(name, filter, m, z, r, kinds, observed),
     }
 }
 
-// The closes of a correction; a stepped one has no observed points.
 fn side_close(
     name: Name,
     pair: Pair,
@@ -152,7 +132,7 @@ fn side_close(
     m: usize,
     z: &[f64],
     r: &[f64],
-    kinds: [Kind; 4],
+    kinds: [Kind<f64>; 4],
     observed: &[f64],
 ) -> PairAnswer {
     match name {
@@ -163,28 +143,119 @@ fn side_close(
     }
 }
 
-pub fn with_measurement(
-    name: Name,
-    held: Held,
-    m: usize,
-    z: &[f64],
-    r: &[f64],
-    kinds: [Kind; 4],
-    observed: &[f64],
-) -> Done {
-    let filter = held.filter;
-    let pair = held.pair;
-    let whose = held.whose;
-    match whose {
-        Whose::Alone => alone(
-            held,
-            solo::with_measurement(name, filter, m, z, r, kinds, observed),
-        ),
-        Whose::On(side) => paired(held, side_close(name, pair, side, m, z, r, kinds, observed)),
+// The filter, or a side with the sheet.
+fn shown(held: Held) -> Filter<f64> {
+    let sheet = held.pair.sheet;
+    match held.whose {
+        Whose::Alone => held.filter,
+        Whose::On(Side::First) => Filter {
+            sheet,
+            track: held.pair.first,
+        },
+        Whose::On(Side::Second) => Filter {
+            sheet,
+            track: held.pair.second,
+        },
+    }
+}
+
+impl Subject for Held {
+    type Float = f64;
+
+    fn renewed(self, n: usize, x: &[f64], p: &[f64], q: &[f64], params: Params<f64>) -> Done<Held> {
+        alone(self, Filter::new(n, x, p, q, params))
+    }
+
+    fn with_list(self, name: Name, list: &[f64]) -> Done<Held> {
+        match self.whose {
+            Whose::Alone => alone(self, own_list(name, self.filter, list)),
+            Whose::On(side) => paired(self, side_list(name, self.pair, side, list)),
+        }
+    }
+
+    fn with_buffer(self, name: Name, buffer: &mut [f64]) -> Done<Held> {
+        match self.whose {
+            Whose::Alone => alone(self, own_buffer(name, self.filter, buffer)),
+            Whose::On(side) => paired(self, side_buffer(name, self.pair, side, buffer)),
+        }
+    }
+
+    fn with_measurement(
+        self,
+        name: Name,
+        m: usize,
+        z: &[f64],
+        r: &[f64],
+        kinds: &[Kind<f64>; 4],
+        observed: &[f64],
+    ) -> Done<Held> {
+        match self.whose {
+            Whose::Alone => alone(
+                self,
+                own_close(name, self.filter, m, z, r, *kinds, observed),
+            ),
+            Whose::On(side) => paired(
+                self,
+                side_close(name, self.pair, side, m, z, r, *kinds, observed),
+            ),
+        }
+    }
+
+    fn set_params(self, params: Params<f64>) -> Done<Held> {
+        match self.whose {
+            Whose::Alone => alone(self, self.filter.set_params(params)),
+            Whose::On(_) => paired(self, self.pair.set_params(params)),
+        }
+    }
+
+    fn set_kind(self, i: usize, kind: Kind<f64>) -> Done<Held> {
+        match self.whose {
+            Whose::Alone => alone(self, self.filter.set_kind(i, kind)),
+            Whose::On(_) => paired(self, self.pair.set_kind(i, kind)),
+        }
+    }
+
+    fn abandon(self) -> Done<Held> {
+        match self.whose {
+            Whose::Alone => alone(self, self.filter.abandon()),
+            Whose::On(side) => paired(self, self.pair.abandon(side)),
+        }
+    }
+
+    fn read_params(self) -> ParamsRead<f64> {
+        match self.whose {
+            Whose::Alone => self.filter.read_params(),
+            Whose::On(side) => self.pair.read_params(side),
+        }
+    }
+
+    fn read_stale(self) -> StaleRead {
+        match self.whose {
+            Whose::Alone => self.filter.read_stale(),
+            Whose::On(side) => self.pair.read_stale(side),
+        }
+    }
+
+    fn put_moments(self, out: &mut [u8], used: usize) -> usize {
+        answers::put_moments(out, used, shown(self))
+    }
+
+    fn put_all(self, out: &mut [u8], used: usize) -> usize {
+        let filter = shown(self);
+        let at = answers::put_filter(out, used, filter);
+        answers::put_kept(out, at, filter)
     }
 }
 
 // The stepped calls that are lent nothing.
+fn own_stepped(name: Name, filter: Filter<f64>) -> Answer<f64> {
+    match name {
+        Name::OpenPredictionStepped => stepped::open_prediction(filter),
+        Name::OpenCorrectionStepped => stepped::open_correction(filter),
+        _ => stepped::close_prediction(filter),
+    }
+}
+
 fn side_stepped(name: Name, pair: Pair, side: Side) -> PairAnswer {
     match name {
         Name::OpenPredictionStepped => pair.open_prediction_stepped(side),
@@ -193,83 +264,24 @@ fn side_stepped(name: Name, pair: Pair, side: Side) -> PairAnswer {
     }
 }
 
-pub fn with_nothing(name: Name, held: Held) -> Done {
-    let filter = held.filter;
-    let pair = held.pair;
-    let whose = held.whose;
-    match whose {
-        Whose::Alone => alone(held, solo::with_nothing(name, filter)),
-        Whose::On(side) => paired(held, side_stepped(name, pair, side)),
+pub fn with_nothing(name: Name, held: Held) -> Done<Held> {
+    match held.whose {
+        Whose::Alone => alone(held, own_stepped(name, held.filter)),
+        Whose::On(side) => paired(held, side_stepped(name, held.pair, side)),
     }
 }
 
-pub fn image_correction(held: Held, m: usize, image: &[f64]) -> Done {
-    let filter = held.filter;
-    let pair = held.pair;
-    let whose = held.whose;
-    match whose {
-        Whose::Alone => alone(held, stepped::image_correction(filter, m, image)),
-        Whose::On(side) => paired(held, pair.image_correction(side, m, image)),
-    }
-}
-
-pub fn set_params(held: Held, params: Params) -> Done {
-    let filter = held.filter;
-    let pair = held.pair;
-    let whose = held.whose;
-    match whose {
-        Whose::Alone => alone(held, filter.set_params(params)),
-        Whose::On(_) => paired(held, pair.set_params(params)),
-    }
-}
-
-pub fn set_kind(held: Held, i: usize, kind: Kind) -> Done {
-    let filter = held.filter;
-    let pair = held.pair;
-    let whose = held.whose;
-    match whose {
-        Whose::Alone => alone(held, filter.set_kind(i, kind)),
-        Whose::On(_) => paired(held, pair.set_kind(i, kind)),
-    }
-}
-
-pub fn abandon(held: Held) -> Done {
-    let filter = held.filter;
-    let pair = held.pair;
-    let whose = held.whose;
-    match whose {
-        Whose::Alone => alone(held, filter.abandon()),
-        Whose::On(side) => paired(held, pair.abandon(side)),
-    }
-}
-
-pub fn read_params(held: Held) -> ParamsRead {
-    let filter = held.filter;
-    let pair = held.pair;
-    let whose = held.whose;
-    match whose {
-        Whose::Alone => filter.read_params(),
-        Whose::On(side) => pair.read_params(side),
+pub fn image_correction(held: Held, m: usize, image: &[f64]) -> Done<Held> {
+    match held.whose {
+        Whose::Alone => alone(held, stepped::image_correction(held.filter, m, image)),
+        Whose::On(side) => paired(held, held.pair.image_correction(side, m, image)),
     }
 }
 
 // The record of the filter or of a side.
 pub fn save(held: Held, out: &mut [u8]) -> Verdict {
-    let filter = held.filter;
-    let pair = held.pair;
-    let whose = held.whose;
-    match whose {
-        Whose::Alone => records::save(filter, out),
-        Whose::On(side) => pair.save(side, out),
-    }
-}
-
-pub fn read_stale(held: Held) -> StaleRead {
-    let filter = held.filter;
-    let pair = held.pair;
-    let whose = held.whose;
-    match whose {
-        Whose::Alone => filter.read_stale(),
-        Whose::On(side) => pair.read_stale(side),
+    match held.whose {
+        Whose::Alone => records::save(held.filter, out),
+        Whose::On(side) => held.pair.save(side, out),
     }
 }

@@ -9,7 +9,9 @@ use lib.ListN.{length, get_or, set, length-set}
 use lib.Seq.{get_or-set_same, get_or-set_other}
 use lib.Ieee.{Float, Format, nan, sub, div}
 use lib.Ieee.Scale.{finite}
-use Rattle.floats.specs.Refusal.{Refusal, RANGE, Outcome, refused, accepted, unless, onward}
+use Rattle.floats.specs.declared.Refusal.{Refusal}
+use Rattle.floats.specs.declared.Refusal.TheVariants.{Range as RANGE}
+use Rattle.floats.specs.Refusal.{Outcome, refused, accepted, unless, onward}
 use Rattle.floats.specs.Numbers.{zeros, above_zero}
 use Rattle.root.specs.Definition.{root_of}
 use Rattle.matrix.specs.Sums.{product_at}

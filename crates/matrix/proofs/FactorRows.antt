@@ -8,7 +8,9 @@ use native.Mathlib.Omega.{arith}
 use lib.ListN.{get_or}
 use lib.Ieee.{Float, Format, nan, sub, mul, div}
 use lib.Ieee.Scale.{finite}
-use Rattle.floats.specs.Refusal.{Refusal, RANGE, Outcome, refused, accepted}
+use Rattle.floats.specs.declared.Refusal.{Refusal}
+use Rattle.floats.specs.declared.Refusal.TheVariants.{Range as RANGE}
+use Rattle.floats.specs.Refusal.{Outcome, refused, accepted}
 use Rattle.floats.specs.Numbers.{above_zero}
 use Rattle.root.specs.Definition.{root_of}
 use Rattle.matrix.specs.Sums.{product_at}

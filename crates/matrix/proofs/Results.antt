@@ -2,16 +2,16 @@
 -- in the code's own terms. What is left of the plan comes to the whole outcome. Assumes nothing.
 use Prim.Native.Nat.{ℕ}
 use mathlib.Core.Path.{◌≡◌, refl, sym, ap, ◌∙◌}
-use mathlib.Core.Bool.{Bool, true, false, not}
+use mathlib.Core.Bool.{Bool, true, false}
 use mathlib.Core.List.{List, [], ◌∷◌, ◌++◌}
-use mathlib.Core.Logic.{◌↔◌, ◌≢◌, ⊎_elim}
-use borrow.Author.Tests.{not-true, not-false}
+use mathlib.Core.Logic.{◌↔◌, ⊎_elim}
 use lib.ListN.{take}
 use lib.Ieee.{Float, Format}
-use Rattle.floats.specs.declared.Verdict.{Verdict}
-use Rattle.floats.specs.Refusal.{Refusal, bad_lone, RANGE, verdict, Outcome, refused, accepted, refusal, or, unless, onward}
+use Rattle.floats.specs.declared.Refusal.{Refusal}
+use Rattle.floats.specs.declared.Refusal.TheVariants.{Range as RANGE}
+use Rattle.floats.specs.Refusal.{Outcome, refused, accepted, unless, onward}
 use Rattle.floats.specs.Numbers.{all_finite}
-use Rattle.floats.proofs.Refusals.{refused_never, gave_zero, gave_number, onward_same, onward_unless, passed, failed}
+use Rattle.floats.proofs.Refusals.{refused_never, onward_same, onward_unless, passed, failed}
 use Rattle.root.specs.Definition.{root_of}
 use Rattle.root.specs.Answer.{root_outcome}
 use Rattle.matrix.specs.Results.{Result, rooting, good, refusal_of, First, now, later, Work, made, check, worked, results, product, then, listed, Plan, finish, after, run, planned}
@@ -105,27 +105,25 @@ module _ {A : Type 0} where
   unfolding run
   ends at = at.is
 
-  -- u is the result, and b what the test of its first m numbers said; the code leaves where not b
+  -- u is the result, and b what the test of its first m numbers said
   module _ {o : Outcome A} {v : List Float} {κ : List Float → Plan A} (m : ℕ) (at : Comes o (after (listed m v) κ)) {u : List Float} (e : u ≡ v) {b : Bool} (t : b ≡ all_finite (take m u)) where
-    pub goes : not b ≡ false → Comes o (κ u)
+    pub goes : b ≡ true → Comes o (κ u)
     unfolding run worked
-    goes h = record { is = rw (← e, ← t, not-false b h) at at.is }
+    goes h = record { is = rw (← e, ← t, h) at at.is }
 
-    pub stops : not b ≡ true → o ≡ refused RANGE
+    pub stops : b ≡ false → o ≡ refused RANGE
     unfolding run worked
-    stops h = rw (← e, ← t, not-true b h) at at.is
+    stops h = rw (← e, ← t, h) at at.is
 
-  -- q is what the step told, and u what it made, or d
-  module _ {o : Outcome A} {B : Type 0} {w : Work B} {κ : B → Plan A} (at : Comes o (after w κ)) {q : Verdict} (n : q ≡ refusal (worked w)) where
-    pub after_goes : (d : B) {u : B} → u ≡ or d (worked w) → q.number ≡ 0 → Comes o (κ u)
+  -- q is what the step answered
+  module _ {o : Outcome A} {B : Type 0} {w : Work B} {κ : B → Plan A} (at : Comes o (after w κ)) {q : Outcome B} (told : q ≡ worked w) where
+    pub after_goes : {u : B} → q ≡ accepted u → Comes o (κ u)
     unfolding run
-    after_goes d e t = record { is = rw (gave_zero (worked w) d (sym (ap (λ (v : Verdict). v.number) n) ∙ t), ← e) at at.is }
+    after_goes t = record { is = rw (← told, t) at at.is }
 
-    pub after_stops : q.number ≢ 0 → (r : Refusal) × (o ≡ refused r) × (q ≡ verdict r)
+    pub after_stops : {r : Refusal} → q ≡ refused r → o ≡ refused r
     unfolding run
-    after_stops t =
-        let g = gave_number (worked w) (λ z. t (ap (λ (v : Verdict). v.number) n ∙ z)) in
-        (g.0, rw g.1 at at.is, n ∙ g.2)
+    after_stops t = rw (← told, t) at at.is
 
   -- x is a number whose root is taken, and q the outcome of that
   module _ (f : Format) {o : Outcome A} {x : Float} {κ : Float → Plan A} (at : Comes o (after (check (rooting x) (made (root_of f x))) κ)) {q : Outcome Float} (told : q ≡ root_outcome f x) where
@@ -133,10 +131,6 @@ module _ {A : Type 0} where
     unfolding run worked
     root_goes d t = let h = root_value f x told t in record { is = rw (h.0, h.1) at at.is }
 
-    pub root_stops : q ≡ refused bad_lone → o ≡ refused bad_lone
+    pub root_stops : {r : Refusal} → q ≡ refused r → o ≡ refused r
     unfolding run worked
-    root_stops t = rw (root_refused f x told t) at at.is
-
--- what the code returns, where a callee has made the refusal's answer
-pub refused_as : {A B : Type 0} (h : Outcome A → B) {o : Outcome A} {q : B} {r : Refusal} → q ≡ h (refused r) → o ≡ refused r → q ≡ h o
-refused_as h e t = e ∙ ap h (sym t)
+    root_stops t = let h = root_refused f x told t in rw h.1 (rw h.0 at at.is)

@@ -3,6 +3,7 @@ use mathlib.Core.Path.{◌≡◌, sym, ◌∙◌}
 use mathlib.Core.Bool.{true, false, true≢false}
 use mathlib.Core.Logic.{⊎_elim}
 use lib.Ieee.{Float, Format}
+use Rattle.floats.specs.declared.Refusal.{Refusal}
 use Rattle.floats.specs.Refusal.{bad_lone, Outcome, refused, accepted}
 use Rattle.floats.specs.Numbers.{above_zero}
 use Rattle.floats.proofs.Refusals.{refused_never, passed, failed}
@@ -17,13 +18,13 @@ module _ (f : Format) (x : Float) {o : Outcome Float} (told : o ≡ root_outcome
       let e : accepted (root_of f x) ≡ accepted d = k.1 in
       (k.0, cc)
 
-  pub root_refused : o ≡ refused bad_lone → rooted x ≡ false
-  root_refused h = ⊎_elim (λ k. k.0) (λ k. absurd (refused_never (sym k.1))) (failed (rooted x) bad_lone bad_lone (accepted (root_of f x)) (sym told ∙ h))
+  pub root_refused : {r : Refusal} → o ≡ refused r → (rooted x ≡ false) × (r ≡ bad_lone)
+  root_refused {r} h = ⊎_elim (λ k. (k.0, sym k.1)) (λ k. absurd (refused_never (sym k.1))) (failed (rooted x) bad_lone r (accepted (root_of f x)) (sym told ∙ h))
 
   -- of a pivot x that has passed
   module _ (t : above_zero x ≡ true) where
     pub above_value : {d : Float} → o ≡ accepted d → d ≡ root_of f x
     above_value h = sym (root_value h).1
 
-    pub above_never : o ≡ refused bad_lone → ⊥
-    above_never h = true≢false (sym (above_rooted x t) ∙ root_refused h)
+    pub above_never : {r : Refusal} → o ≡ refused r → ⊥
+    above_never h = true≢false (sym (above_rooted x t) ∙ (root_refused h).0)

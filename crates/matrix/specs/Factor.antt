@@ -4,14 +4,14 @@ use mathlib.Core.List.{List, [], ◌∷◌}
 use Rattle.std.specs.Prelude.{get_or, set, Float}
 use Rattle.std.specs.Float.{nan, Format}
 use Rattle.std.specs.Float.Ieee.{div}
-use Rattle.floats.specs.Refusal.{Refusal, PIVOT, INNOV, Outcome, refusal, or}
+use Rattle.floats.specs.declared.Refusal.{Refusal}
+use Rattle.floats.specs.declared.Refusal.TheVariants.{Pivot as PIVOT, Innovation as INNOV}
 use Rattle.floats.specs.Numbers.{zeros}
 use Rattle.root.specs.Definition.{root_of}
 use Rattle.matrix.specs.Sums.{less_of}
 use Rattle.matrix.specs.Results.{numbers, pivot, Work, made, check, then}
 use Rattle.matrix.specs.declared.pivots.Pivots.{Pivots}
 use Rattle.matrix.specs.declared.pivots.Pivots.TheVariants.{OfP, OfS}
-use Rattle.matrix.specs.declared.factor.Factor.{Factor}
 
 -- A of n rows: A[i][j] minus L[i][k]·L[j][k] for k below j in turn
 abbrev pub left_of : Format → List Float → ℕ → ℕ → ℕ → List Float → Float
@@ -43,13 +43,7 @@ module _ (f : Format) (r : ℕ → Refusal) (a : List Float) (n : ℕ) where
   abbrev pub factor_of : Work (List Float)
   factor_of = columns_from n 0 (zeros 64)
 
--- ---- what the code declares
-
--- 7 for P, 8 for S, each by the row
+-- a pivot of P or of S is refused by its row
 abbrev pub refused_by : Pivots → ℕ → Refusal
 refused_by OfP = PIVOT
 refused_by OfS = INNOV
-
--- the number with its place, and the entries, +0 throughout where refused
-abbrev pub factored : Outcome (List Float) → Factor
-factored o = record { refusal = refusal o; l = or (zeros 64) o }

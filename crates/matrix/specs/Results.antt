@@ -1,6 +1,8 @@
 -- The listed results of the steps, checked in running order: the first that fails decides. Definitions only.
 use Rattle.std.specs.Prelude.{ℕ, ◌≡◌, Bool, true, false, List, [], ◌∷◌, ◌++◌, take, Float}
-use Rattle.floats.specs.Refusal.{Refusal, bad_lone, RANGE, Outcome, accepted, unless, onward}
+use Rattle.floats.specs.declared.Refusal.{Refusal}
+use Rattle.floats.specs.declared.Refusal.TheVariants.{Range as RANGE}
+use Rattle.floats.specs.Refusal.{bad_lone, Outcome, accepted, unless, onward}
 use Rattle.floats.specs.Numbers.{all_finite, above_zero}
 use Rattle.root.specs.Definition.{rooted}
 

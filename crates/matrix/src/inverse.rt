@@ -1,121 +1,93 @@
 // The inverse of A from its factor L, two passes for each column.
 ghost use Rattle.std.specs.Prelude.{◌≡◌, ◌<◌, ◌≤◌};
-ghost use Rattle.std.specs.Float.{binary64};
 ghost use Rattle.floats.specs.Numbers.{zeros};
 ghost use Rattle.matrix.specs.Folds.{rows_of};
 ghost use Rattle.matrix.specs.Inverse.{unit_at, forward_at, forward_of, backward_at, backward_of, column_at, inverse_of};
 
 use crate::layout;
+use floats::Number;
 
 // 1 if i = c, else 0.
-fn unit(c: usize, i: usize) -> f64
-    ensures { result ≡ unit_at binary64 c i }
+fn unit<T: Number>(c: usize, i: usize) -> T
+    ensures { T.float result ≡ unit_at T.format c i }
 {
-    if i == c { 1.0 } else { 0.0 }
+    if i == c { T::ONE } else { T::ZERO }
 }
 
 // u[i]: the unit's number i, minus L[i][k]·u[k] for k below i in turn, over L[i][i].
-fn forward_at(l: &[f64; 64], m: usize, c: usize, u: &[f64; 8], i: usize) -> f64
+fn forward_at<T: Number>(l: &[T; 64], m: usize, c: usize, u: &[T; 8], i: usize) -> T
     requires { (m ≤ 8) × (i < m) }
-    ensures { result ≡ forward_at binary64 l.now m c u.now i }
+    ensures { T.float result ≡ forward_at T.format (T.floats l.now) m c (T.floats u.now) i }
 {
-    let mut s = unit(c, i);
-    let mut k = 0usize;
-    while k < i {
-        let at = layout::cell(i, m, k);
-        s = s - l[at] * u[k];
-        k += 1;
+    let mut s: T = unit(c, i);
+    for k in 0..i {
+        s = s - l[layout::cell(i, m, k)] * u[k];
     }
-    let d = layout::cell(i, m, i);
-    s / l[d]
+    s / l[layout::cell(i, m, i)]
 }
 
-fn forward(l: &[f64; 64], m: usize, c: usize) -> [f64; 8]
+fn forward<T: Number>(l: &[T; 64], m: usize, c: usize) -> [T; 8]
     requires { m ≤ 8 }
-    ensures { result ≡ forward_of binary64 l.now m c }
+    ensures { T.floats result ≡ forward_of T.format (T.floats l.now) m c }
 {
-    let mut u = [0.0f64; 8];
-    let mut i = 0usize;
-    while i < m {
-        let e = forward_at(l, m, c, &u, i);
-        u[i] = e;
-        i += 1;
+    let mut u = [T::ZERO; 8];
+    for i in 0..m {
+        u[i] = forward_at(l, m, c, &u, i);
     }
     u
 }
 
 // v[i]: u[i] minus L[k][i]·v[k] for k from i + 1 upward, over L[i][i].
-fn backward_at(l: &[f64; 64], m: usize, v: &[f64; 8], i: usize) -> f64
+fn backward_at<T: Number>(l: &[T; 64], m: usize, v: &[T; 8], i: usize) -> T
     requires { (m ≤ 8) × (i < m) }
-    ensures { result ≡ backward_at binary64 l.now m v.now i }
+    ensures { T.float result ≡ backward_at T.format (T.floats l.now) m (T.floats v.now) i }
 {
     let mut s = v[i];
-    let rest = m - (i + 1);
-    let mut k = 0usize;
-    while k < rest {
-        let j = i + 1 + k;
-        let at = layout::cell(j, m, i);
-        s = s - l[at] * v[j];
-        k += 1;
+    for k in i + 1..m {
+        s = s - l[layout::cell(k, m, i)] * v[k];
     }
-    let d = layout::cell(i, m, i);
-    s / l[d]
+    s / l[layout::cell(i, m, i)]
 }
 
 // From the last i down.
-fn backward(l: &[f64; 64], m: usize, u: [f64; 8]) -> [f64; 8]
+fn backward<T: Number>(l: &[T; 64], m: usize, u: [T; 8]) -> [T; 8]
     requires { m ≤ 8 }
-    ensures { result ≡ backward_of binary64 l.now m u }
+    ensures { T.floats result ≡ backward_of T.format (T.floats l.now) m (T.floats u) }
 {
     let mut v = u;
-    let mut k = 0usize;
-    while k < m {
-        let i = m - (k + 1);
-        let e = backward_at(l, m, &v, i);
-        v[i] = e;
-        k += 1;
+    for i in (0..m).rev() {
+        v[i] = backward_at(l, m, &v, i);
     }
     v
 }
 
 // Column c of the inverse, number after number: row c of m rows.
-fn columns(l: &[f64; 64], m: usize) -> [f64; 64]
+fn columns<T: Number>(l: &[T; 64], m: usize) -> [T; 64]
     requires { m ≤ 8 }
-    ensures { result ≡ rows_of (column_at binary64 l.now m) m m (zeros 64) }
+    ensures { T.floats result ≡ rows_of (column_at T.format (T.floats l.now) m) m m (zeros 64) }
 {
-    let mut out = [0.0f64; 64];
-    let mut c = 0usize;
-    while c < m {
+    let mut out = [T::ZERO; 64];
+    for c in 0..m {
         let u = forward(l, m, c);
         let v = backward(l, m, u);
-        let mut i = 0usize;
-        while i < m {
-            let at = layout::cell(c, m, i);
-            out[at] = v[i];
-            i += 1;
+        for i in 0..m {
+            out[layout::cell(c, m, i)] = v[i];
         }
-        c += 1;
     }
     out
 }
 
 // The inverse V of A: V[i][c] is number i of column c.
-pub fn invert_l_cholesky(l: &[f64; 64], m: usize) -> [f64; 64]
+pub fn invert_l_cholesky<T: Number>(l: &[T; 64], m: usize) -> [T; 64]
     requires { m ≤ 8 }
-    ensures { result ≡ inverse_of binary64 l.now m }
+    ensures { T.floats result ≡ inverse_of T.format (T.floats l.now) m }
 {
     let w = columns(l, m);
-    let mut out = [0.0f64; 64];
-    let mut i = 0usize;
-    while i < m {
-        let mut c = 0usize;
-        while c < m {
-            let at = layout::cell(i, m, c);
-            let from = layout::cell(c, m, i);
-            out[at] = w[from];
-            c += 1;
+    let mut out = [T::ZERO; 64];
+    for i in 0..m {
+        for c in 0..m {
+            out[layout::cell(i, m, c)] = w[layout::cell(c, m, i)];
         }
-        i += 1;
     }
     out
 }

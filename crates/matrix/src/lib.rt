@@ -1,4 +1,4 @@
-// Matrices as flat arrays of f64, row by row: sums of products, the factor, the inverse and the product with a transpose.
+// Matrices as flat arrays of numbers, row by row: sums of products, the factor, the inverse and the product with a transpose.
 #![tactic(auto)]
 
 pub mod factor;

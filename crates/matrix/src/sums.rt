@@ -1,60 +1,53 @@
 // Sums of products of rows, and sums and differences of matrices. Each operation is rounded once.
 ghost use Rattle.std.specs.Prelude.{◌≡◌, ◌+◌, ◌≤◌};
-ghost use Rattle.std.specs.Float.{binary64};
 ghost use Rattle.matrix.specs.Sums.{dot_of, less_of, plus_of, minus_of};
 
+use floats::Number;
+
 // The sum over k below n, from +0 upward, of x[r + k]·y[s + k].
-pub fn dot(x: &[f64; 64], r: usize, y: &[f64; 64], s: usize, n: usize) -> f64
+pub fn dot<T: Number>(x: &[T; 64], r: usize, y: &[T; 64], s: usize, n: usize) -> T
     requires { (r + n ≤ 64) × (s + n ≤ 64) }
-    ensures { result ≡ dot_of binary64 x.now r y.now s n }
+    ensures { T.float result ≡ dot_of T.format (T.floats x.now) r (T.floats y.now) s n }
 {
-    let mut t = 0.0;
-    let mut k = 0usize;
-    while k < n {
+    let mut t = T::ZERO;
+    for k in 0..n {
         t = t + x[r + k] * y[s + k];
-        k += 1;
     }
     t
 }
 
 // a minus l[r + k]·l[s + k] for each k below n in turn.
-pub fn less(a: f64, l: &[f64; 64], r: usize, s: usize, n: usize) -> f64
+pub fn less<T: Number>(a: T, l: &[T; 64], r: usize, s: usize, n: usize) -> T
     requires { (r + n ≤ 64) × (s + n ≤ 64) }
-    ensures { result ≡ less_of binary64 a l.now r s n }
+    ensures { T.float result ≡ less_of T.format (T.float a) (T.floats l.now) r s n }
 {
     let mut t = a;
-    let mut k = 0usize;
-    while k < n {
+    for k in 0..n {
         t = t - l[r + k] * l[s + k];
-        k += 1;
     }
     t
 }
 
 // a + b over the first k places, +0 after them.
-pub fn plus(k: usize, a: &[f64; 64], b: &[f64; 64]) -> [f64; 64]
+pub fn plus<T: Number>(k: usize, a: &[T; 64], b: &[T; 64]) -> [T; 64]
     requires { k ≤ 64 }
-    ensures { result ≡ plus_of binary64 k a.now b.now }
+    ensures { T.floats result ≡ plus_of T.format k (T.floats a.now) (T.floats b.now) }
 {
-    let mut out = [0.0f64; 64];
-    let mut i = 0usize;
-    while i < k {
+    let mut out = [T::ZERO; 64];
+    for i in 0..k {
         out[i] = a[i] + b[i];
-        i += 1;
     }
     out
 }
 
 // a − b over the first k places, +0 after them.
-pub fn minus(k: usize, a: &[f64; 64], b: &[f64; 64]) -> [f64; 64]
+pub fn minus<T: Number>(k: usize, a: &[T; 64], b: &[T; 64]) -> [T; 64]
     requires { k ≤ 64 }
-    ensures { result ≡ minus_of binary64 k a.now b.now }
+    ensures { T.floats result ≡ minus_of T.format k (T.floats a.now) (T.floats b.now) }
 {
-    let mut out = [0.0f64; 64];
-    let mut i = 0usize;
-    while i < k {
+    let mut out = [T::ZERO; 64];
+    for i in 0..k {
         out[i] = a[i] - b[i];
-        i += 1;
     }
     out
 }

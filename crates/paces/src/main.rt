@@ -2,22 +2,19 @@
 // and writes the bits of x after them: for 8 states with 4 measurements, then for 3 with 2. oracle/src/bin/paces.rs does the same with the published Rust.
 #![tactic(auto)]
 
-use angles::{Kind, Residual};
+use angles::Kind;
 use filter::Filter;
 use sigma::Params;
 use std::io;
 use std::io::{ErrorKind, Read};
-use words::Word;
 
 // Numbers from 0 to 15 in a fixed disorder.
 fn numbers(step: u64) -> [f64; 136] {
     let mut out = [0.0f64; 136];
     let mut v = 1u64;
-    let mut i = 0usize;
-    while i < 136 {
+    for x in &mut out {
         v = (v % 16 + step % 16) % 16;
-        out[i] = v as f64;
-        i += 1;
+        *x = v as f64;
     }
     out
 }
@@ -25,26 +22,21 @@ fn numbers(step: u64) -> [f64; 136] {
 // n rows of n numbers, x on the diagonal and 0 elsewhere.
 fn diagonal(n: usize, x: f64) -> [f64; 64] {
     let mut out = [0.0f64; 64];
-    let mut at = 0usize;
-    while at < 64 {
-        out[at] = x;
-        if n > 63 {
-            return out;
-        }
-        at += n + 1;
+    for i in (0..64).step_by(n.saturating_add(1)) {
+        out[i] = x;
     }
     out
 }
 
 // One prediction and one correction.
 fn round(
-    f: Filter,
+    f: Filter<f64>,
     m: usize,
     propagated: &[f64; 136],
     observed: &[f64; 136],
     r: &[f64; 64],
-    kinds: [Kind; 4],
-) -> Filter {
+    kinds: [Kind<f64>; 4],
+) -> Filter<f64> {
     let mut out = [0.0f64; 136];
     let a = f.open_prediction(&mut out);
     let opened = a.filter;
@@ -57,7 +49,7 @@ fn round(
 }
 
 // So many rounds of a prediction and a correction on a filter of n states.
-fn run(n: usize, m: usize, rounds: u64) -> Filter {
+fn run(n: usize, m: usize, rounds: u64) -> Filter<f64> {
     let propagated = numbers(7);
     let observed = numbers(5);
     let p = diagonal(n, 4.0);
@@ -68,29 +60,19 @@ fn run(n: usize, m: usize, rounds: u64) -> Filter {
         beta: 0.0,
         kappa: 1.0,
     };
-    let plain = Kind {
-        residual: Residual::Plain,
-    };
-    let kinds = [plain; 4];
+    let kinds = [Kind::Plain; 4];
     let made = Filter::new(n, &propagated, &p, &q, params);
     let mut f = made.filter;
-    let mut left = rounds;
-    while left > 0 {
+    for _ in 0..rounds {
         f = round(f, m, &propagated, &observed, &r, kinds);
-        left -= 1;
     }
     f
 }
 
 // The first k numbers of s, as far as it has them, a line each.
 fn put(rt: &impl Print, s: &[f64], k: usize) -> io::Result<()> {
-    let mut i = 0usize;
-    while i < k {
-        if i >= s.len() {
-            return Ok(());
-        }
-        println!(rt; "{:016x}", words::bits_of(s[i]))?;
-        i += 1;
+    for x in &s[..k.min(s.len())] {
+        println!(rt; "{:016x}", words::bits_of(*x))?;
     }
     Ok(())
 }
@@ -106,7 +88,7 @@ fn read_line(input: &mut impl Read, line: &mut [u8; 17]) -> io::Result<()> {
 fn main(rt: HostRuntime) -> io::Result<()> {
     let mut line = [0u8; 17];
     read_line(&mut rt.reader(), &mut line)?;
-    let Word::Bits(rounds) = words::word_at(&line, 0) else {
+    let Some(rounds) = words::word_at::<f64>(&line, 0) else {
         return Ok(());
     };
     let large = run(8, 4, rounds);

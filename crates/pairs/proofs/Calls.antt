@@ -8,15 +8,17 @@ use lib.Dec.{eqb}
 use lib.Ieee.{Float, Format}
 use Rattle.floats.specs.Fronts.{over}
 use Rattle.floats.specs.declared.Verdict.{Verdict}
-use Rattle.floats.specs.Refusal.{Refusal, STAGE, verdict, Outcome, refused, accepted}
+use Rattle.floats.specs.declared.Refusal.{Refusal}
+use Rattle.floats.specs.declared.Refusal.TheVariants.{Stage as STAGE}
+use Rattle.floats.specs.Refusal.{verdict, Outcome, refused, accepted}
 use Rattle.floats.proofs.Refusals.{number, named, by_number}
 use Rattle.matrix.specs.Results.{finish, run}
 use Rattle.filter.specs.Asked.{guarded}
-use Rattle.filter.specs.declared.Filter.{Filter}
-use Rattle.filter.specs.declared.Answer.{Answer}
+use Rattle.filter.specs.Types.{Filter}
+use Rattle.filter.specs.Types.{Answer}
 use Rattle.filter.specs.Filters.{is_shut, seen, writes}
 use Rattle.filter.specs.Calls.{SheetCall, Call, writing, sheet_needs, asking, Done, done, writing_of}
-use Rattle.filter.specs.declared.ParamsRead.{ParamsRead}
+use Rattle.filter.specs.Types.{ParamsRead}
 use Rattle.filter.specs.declared.StaleRead.{StaleRead}
 use Rattle.filter.specs.Steps.{outcome, Reply, stepped, step, answered, params_read, stale_read}
 use Rattle.pairs.specs.declared.Pair.{Pair}

@@ -2,7 +2,7 @@
 use Rattle.std.specs.Prelude.{ℕ, List, [], ◌∷◌, Float}
 use Rattle.std.specs.Float.{Format}
 use Rattle.floats.specs.Refusal.{Outcome, accepted, refusal, or}
-use Rattle.sigma.specs.declared.Params.{Params}
+use Rattle.sigma.specs.Weights.{Params}
 use Rattle.filter.specs.Asked.{Asks, guarded}
 use Rattle.filter.specs.New.{empty_sheet, empty_track, from, new_asks, sheet_from, track_from}
 use Rattle.pairs.specs.declared.Pair.{Pair}

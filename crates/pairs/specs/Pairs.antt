@@ -2,10 +2,10 @@
 use Rattle.std.specs.Prelude.{Bool, true, false, ◌&&◌, cond, eqb}
 use Rattle.std.specs.Float.{Format}
 use Rattle.floats.specs.Refusal.{Outcome, refused, accepted}
-use Rattle.filter.specs.declared.Sheet.{Sheet}
-use Rattle.filter.specs.declared.Track.{Track}
-use Rattle.filter.specs.declared.Filter.{Filter}
-use Rattle.filter.specs.declared.Answer.{Answer}
+use Rattle.filter.specs.Types.{Sheet}
+use Rattle.filter.specs.Types.{Track}
+use Rattle.filter.specs.Types.{Filter}
+use Rattle.filter.specs.Types.{Answer}
 use Rattle.matrix.specs.Results.{run}
 use Rattle.filter.specs.Asked.{Asks, guarded}
 use Rattle.filter.specs.Filters.{filter, is_shut, seen, Change, sheet_after, track_after}

@@ -22,7 +22,7 @@ impl Pair {
         m: usize,
         z: &[f64],
         r: &[f64],
-        kinds: [Kind; 4],
+        kinds: [Kind<f64>; 4],
         observed: &[f64],
     ) -> PairAnswer
         ensures { result ≡ pair_answered (pair_step binary64 self side (closing (close_correction m z.now r.now kinds observed.now))) }

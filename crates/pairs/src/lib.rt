@@ -15,9 +15,9 @@ pub mod steps;
 // One sheet and two tracks. A track with the sheet is a filter, and a call on a side is that filter's own call; but a change of the sheet is taken only while neither side has a call open, and reaches both.
 #[derive(Clone, Copy)]
 pub struct Pair {
-    pub sheet: Sheet,
-    pub first: Track,
-    pub second: Track,
+    pub sheet: Sheet<f64>,
+    pub first: Track<f64>,
+    pub second: Track<f64>,
 }
 
 // The side that a call is on.

@@ -15,7 +15,7 @@ impl Pair {
         x2: &[f64],
         p2: &[f64],
         q: &[f64],
-        params: Params,
+        params: Params<f64>,
     ) -> PairAnswer
         ensures { result ≡ new_pair_answer binary64 n x1.now p1.now x2.now p2.now q.now params }
     {

@@ -40,7 +40,7 @@ impl Pair {
         sides::solo(self, side).read_points(out)
     }
 
-    pub fn read_params(self, side: Side) -> ParamsRead
+    pub fn read_params(self, side: Side) -> ParamsRead<f64>
         ensures { result ≡ params_read (pair_step binary64 self side (reading read_params)).reply }
     {
         sides::solo(self, side).read_params()

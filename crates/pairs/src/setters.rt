@@ -33,7 +33,7 @@ impl Pair {
         sides::rewritten(self, a, b)
     }
 
-    pub fn set_params(self, params: Params) -> PairAnswer
+    pub fn set_params(self, params: Params<f64>) -> PairAnswer
         ensures { (side : Side) → result ≡ pair_answered (pair_step binary64 self side (writing (set_params params))) }
     {
         let a = sides::solo(self, Side::First).set_params(params);
@@ -41,7 +41,7 @@ impl Pair {
         sides::rewritten(self, a, b)
     }
 
-    pub fn set_kind(self, i: usize, kind: Kind) -> PairAnswer
+    pub fn set_kind(self, i: usize, kind: Kind<f64>) -> PairAnswer
         ensures { (side : Side) → result ≡ pair_answered (pair_step binary64 self side (writing (set_kind i kind))) }
     {
         let a = sides::solo(self, Side::First).set_kind(i, kind);

@@ -5,7 +5,7 @@ ghost use Rattle.pairs.specs.Pairs.{solo, put, rewritten};
 use crate::{Pair, PairAnswer, Side};
 use filter::{Answer, Filter};
 
-pub fn solo(p: Pair, side: Side) -> Filter
+pub fn solo(p: Pair, side: Side) -> Filter<f64>
     ensures { result ≡ solo p side }
 {
     let track = match side {
@@ -19,7 +19,7 @@ pub fn solo(p: Pair, side: Side) -> Filter
 }
 
 // After a call on one side that has come to this: the other track is as it was.
-pub fn put(p: Pair, side: Side, a: Answer) -> PairAnswer
+pub fn put(p: Pair, side: Side, a: Answer<f64>) -> PairAnswer
     ensures { result ≡ put p side a }
 {
     let Filter { sheet, track } = a.filter;
@@ -42,7 +42,7 @@ pub fn put(p: Pair, side: Side, a: Answer) -> PairAnswer
 }
 
 // After a change of the sheet that has come to a on the first side and to b on the second. Each gives 3 while it has a call open; where neither has, both come to the same, since the sheet alone decides.
-pub fn rewritten(p: Pair, a: Answer, b: Answer) -> PairAnswer
+pub fn rewritten(p: Pair, a: Answer<f64>, b: Answer<f64>) -> PairAnswer
     ensures { result ≡ rewritten p a b }
 {
     if a.refusal.number == 3 {

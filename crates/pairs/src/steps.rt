@@ -59,7 +59,7 @@ impl Pair {
         m: usize,
         z: &[f64],
         r: &[f64],
-        kinds: [Kind; 4],
+        kinds: [Kind<f64>; 4],
     ) -> PairAnswer
         ensures { result ≡ pair_answered (pair_step binary64 self side (closing_stepped (close_correction_stepped m z.now r.now kinds))) }
     {

@@ -16,9 +16,8 @@ use lib.Ieee.Scale.{finite}
 use Rattle.floats.specs.Numbers.{all_finite}
 use Rattle.floats.proofs.Tests.{and_left, and_right}
 use Rattle.angles.specs.Kinds.{half_of}
-use Rattle.angles.specs.declared.Residual.{Residual}
-use Rattle.angles.specs.declared.Residual.TheVariants.{Plain, Turn}
-use Rattle.angles.specs.declared.Kind.{Kind}
+use Rattle.angles.specs.declared.Kind.TheVariants.{Plain, Turn}
+use Rattle.angles.specs.Kinds.{Kind}
 use Rattle.pieces.specs.Bytes.{AreBytes, little_endian, word_of, read_each, all_true, number_bytes, number_at, kind_bytes, kind_at, formed, kind_fits}
 use Rattle.pieces.proofs.Laws.{length_little, word_of_little, word_small, little_of_word}
 
@@ -37,22 +36,22 @@ length_number v = ap length (number_written v) ∙ length_little 8 (to_bits bina
 
 pub length_kind : (k : Kind) → length (kind_bytes k) ≡ 9
 unfolding kind_bytes
-length_kind k = go k.residual
+length_kind k = go k
   where
-    go : (r : Residual) → length (kind_bytes (record { residual = r })) ≡ 9
+    go : (r : Kind) → length (kind_bytes r) ≡ 9
     go Plain = ap suc (length_little 8 0)
     go (Turn h) = ap suc (length_number h)
 
 module _ (out : List ℕ) (at : ℕ) where
-  pub plain_written : {k : Kind} → k.residual ≡ Plain → sets (set out at 0) (at + 1) (little_endian 8 0) ≡ sets out at (kind_bytes k)
+  pub plain_written : {k : Kind} → k ≡ Plain → sets (set out at 0) (at + 1) (little_endian 8 0) ≡ sets out at (kind_bytes k)
   unfolding kind_bytes
-  plain_written {k} e = ap (λ (i : ℕ). sets (set out at 0) i (little_endian 8 0)) (add-one at) ∙ ap (λ (r : Residual). sets out at (kind_bytes (record { residual = r }))) (sym e)
+  plain_written {k} e = ap (λ (i : ℕ). sets (set out at 0) i (little_endian 8 0)) (add-one at) ∙ ap (λ (r : Kind). sets out at (kind_bytes r)) (sym e)
 
-  pub turn_written : {k : Kind} {h : Float} {b : ℕ} → k.residual ≡ Turn h → b ≡ to_bits binary64 h → sets (set out at 1) (at + 1) (little_endian 8 b) ≡ sets out at (kind_bytes k)
+  pub turn_written : {k : Kind} {h : Float} {b : ℕ} → k ≡ Turn h → b ≡ to_bits binary64 h → sets (set out at 1) (at + 1) (little_endian 8 b) ≡ sets out at (kind_bytes k)
   unfolding kind_bytes
   turn_written {k} {h} {b} e w =
       ap (λ (i : ℕ). sets (set out at 1) i (little_endian 8 b)) (add-one at) ∙ ap (λ (v : ℕ). sets (set out at 1) (suc at) (little_endian 8 v)) w
-      ∙ ap (λ (r : Residual). sets out at (kind_bytes (record { residual = r }))) (sym e)
+      ∙ ap (λ (r : Kind). sets out at (kind_bytes r)) (sym e)
 
 module _ (s : List ℕ) (at : ℕ) where
   first : get_or (drop at s) 0 0 ≡ get_or s at 0
@@ -67,13 +66,13 @@ module _ (s : List ℕ) (at : ℕ) where
   other_byte : get_or s at 0 ≢ 0 → eqb (get_or (drop at s) 0 0) 0 ≡ false
   other_byte e = ne_eqb _ _ (λ h. e (sym first ∙ h))
 
-  pub plain_read : get_or s at 0 ≡ 0 → record { residual = Plain } ≡ kind_at (drop at s)
+  pub plain_read : get_or s at 0 ≡ 0 → Plain ≡ kind_at (drop at s)
   unfolding kind_at
   plain_read e = rw (zero_byte e)
 
-  pub turn_read : {h : Float} → get_or s at 0 ≢ 0 → h ≡ of_bits binary64 (word_of 8 (drop (at + 1) s)) → record { residual = Turn h } ≡ kind_at (drop at s)
+  pub turn_read : {h : Float} → get_or s at 0 ≢ 0 → h ≡ of_bits binary64 (word_of 8 (drop (at + 1) s)) → Turn h ≡ kind_at (drop at s)
   unfolding kind_at
-  turn_read {h} n e = rw (other_byte n) (ap (λ (v : Float). record { residual = Turn v }) (e ∙ ap (λ (b : List ℕ). of_bits binary64 (word_of 8 b)) (sym rest)))
+  turn_read {h} n e = rw (other_byte n) (ap Turn (e ∙ ap (λ (b : List ℕ). of_bits binary64 (word_of 8 b)) (sym rest)))
 
   pub plain_formed : get_or s at 0 ≡ 0 → eqb (word_of 8 (drop (at + 1) s)) 0 ≡ formed (drop at s)
   unfolding formed
@@ -107,16 +106,16 @@ unfolding number_at number_bytes
 number_again b h l a =
     ap (little_endian 8) (to_bits-of_bits binary64 (word_of 8 b) (word_small 8 b a) (finite_no_nan (of_bits binary64 (word_of 8 b)) h)) ∙ little_of_word 8 b l a
 
-residual_back : (r : Residual) → kind_fits (record { residual = r }) ≡ true → (rest : List ℕ) → (kind_at (kind_bytes (record { residual = r }) ++ rest) ≡ record { residual = r }) × (formed (kind_bytes (record { residual = r }) ++ rest) ≡ true)
+both_back : (k : Kind) → kind_fits k ≡ true → (b : List ℕ) → (kind_at (kind_bytes k ++ b) ≡ k) × (formed (kind_bytes k ++ b) ≡ true)
 unfolding kind_at kind_bytes formed little_endian word_of
-residual_back Plain h rest = (refl, refl)
-residual_back (Turn v) h rest = (ap (λ (x : Float). record { residual = Turn x }) (number_back v h rest), refl)
+both_back Plain h b = (refl, refl)
+both_back (Turn v) h b = (ap Turn (number_back v h b), refl)
 
 pub kind_back : (k : Kind) → kind_fits k ≡ true → (rest : List ℕ) → kind_at (kind_bytes k ++ rest) ≡ k
-kind_back k h rest = (residual_back k.residual h rest).0
+kind_back k h rest = (both_back k h rest).0
 
 pub kind_formed : (k : Kind) → kind_fits k ≡ true → (rest : List ℕ) → formed (kind_bytes k ++ rest) ≡ true
-kind_formed k h rest = (residual_back k.residual h rest).1
+kind_formed k h rest = (both_back k h rest).1
 
 -- the bytes of a kind that has the form, with a finite half-turn, are written again
 abbrev pub sound : List ℕ → Bool

@@ -3,9 +3,8 @@ use Rattle.std.specs.Prelude.{ℕ, zero, suc, ◌+◌, ◌*◌, ◌/◌, ◌%◌
 use Rattle.std.specs.Float.{binary64}
 use Rattle.std.specs.Float.Ieee.{fits, of_bits, to_bits}
 use Rattle.floats.specs.Tests.{every}
-use Rattle.angles.specs.declared.Residual.{Residual}
-use Rattle.angles.specs.declared.Residual.TheVariants.{Plain, Turn}
-use Rattle.angles.specs.declared.Kind.{Kind}
+use Rattle.angles.specs.declared.Kind.TheVariants.{Plain, Turn}
+use Rattle.angles.specs.Kinds.{Kind}
 
 -- ---- little-endian: v in k bytes, lowest first; and what the first k bytes come to
 
@@ -30,17 +29,14 @@ number_at b = of_bits binary64 (word_of 8 b)
 
 -- ---- a kind
 
-abbrev pub residual_bytes : Residual → List ℕ
-residual_bytes Plain = 0 ∷ little_endian 8 0
-residual_bytes (Turn h) = 1 ∷ number_bytes h
-
 unfoldable pub kind_bytes : Kind → List ℕ
 unfolding number_bytes
-kind_bytes k = residual_bytes k.residual
+kind_bytes Plain = 0 ∷ little_endian 8 0
+kind_bytes (Turn h) = 1 ∷ number_bytes h
 
 unfoldable pub kind_at : List ℕ → Kind
 unfolding number_at
-kind_at b = record { residual = cond (eqb (get_or b 0 0) 0) Plain (Turn (number_at (drop 1 b))) }
+kind_at b = cond (eqb (get_or b 0 0) 0) Plain (Turn (number_at (drop 1 b)))
 
 -- the kind byte is 0 or 1, and the h bytes are zero if it is 0
 unfoldable pub formed : List ℕ → Bool
@@ -69,9 +65,6 @@ abbrev pub AreBytes : List ℕ → Type 0
 AreBytes b = (i : ℕ) → get_or b i 0 < 256
 
 -- the number of a turn is a value that an f64 has
-abbrev pub residual_fits : Residual → Bool
-residual_fits Plain = true
-residual_fits (Turn h) = fits binary64 h
-
 abbrev pub kind_fits : Kind → Bool
-kind_fits k = residual_fits k.residual
+kind_fits Plain = true
+kind_fits (Turn h) = fits binary64 h

@@ -6,19 +6,19 @@ ghost use Rattle.angles.specs.Kinds.{plain};
 ghost use Rattle.pieces.specs.Bytes.{written, read_each, all_true, kind_bytes, kind_at, formed};
 
 use crate::word;
-use angles::{Kind, Residual};
+use angles::Kind;
 
 // The kind k from place at of out on; the rest of out stays.
-pub fn put_kind(k: Kind, out: &mut [u8], at: usize)
+pub fn put_kind(k: Kind<f64>, out: &mut [u8], at: usize)
     requires { at + 9 ≤ length out.old }
     ensures { out.new ≡ sets out.old at (kind_bytes k) }
 {
-    match k.residual {
-        Residual::Plain => {
+    match k {
+        Kind::Plain => {
             out[at] = 0;
             word::put_word(out, at + 1, 0);
         }
-        Residual::Turn(h) => {
+        Kind::Turn(h) => {
             out[at] = 1;
             word::put_word(out, at + 1, words::bits_of(h));
         }
@@ -26,7 +26,7 @@ pub fn put_kind(k: Kind, out: &mut [u8], at: usize)
 }
 
 // The first n kinds from place at of out on; the rest of out stays.
-pub fn put_kinds(kinds: [Kind; 8], n: usize, out: &mut [u8], at: usize)
+pub fn put_kinds(kinds: [Kind<f64>; 8], n: usize, out: &mut [u8], at: usize)
     requires { (n ≤ 8) × (at + 9 * n ≤ length out.old) }
     ensures { out.new ≡ sets out.old at (written kind_bytes (take n kinds)) }
 {
@@ -36,16 +36,15 @@ pub fn put_kinds(kinds: [Kind; 8], n: usize, out: &mut [u8], at: usize)
 }
 
 // The kind at place at of s.
-pub fn kind_at(s: &[u8], at: usize) -> Kind
+pub fn kind_at(s: &[u8], at: usize) -> Kind<f64>
     requires { at + 9 ≤ length s.now }
     ensures { result ≡ kind_at (drop at s.now) }
 {
-    let residual = if s[at] == 0 {
-        Residual::Plain
+    if s[at] == 0 {
+        Kind::Plain
     } else {
-        Residual::Turn(words::float_of(word::word_at(s, at + 1)))
-    };
-    Kind { residual }
+        Kind::Turn(words::float_of(word::word_at(s, at + 1)))
+    }
 }
 
 // Whether there is a kind at place at of s.
@@ -61,14 +60,11 @@ pub fn is_formed(s: &[u8], at: usize) -> bool
 }
 
 // The n kinds from place at of s on, then plain ones.
-pub fn kinds_at(s: &[u8], at: usize, n: usize) -> [Kind; 8]
+pub fn kinds_at(s: &[u8], at: usize, n: usize) -> [Kind<f64>; 8]
     requires { (n ≤ 8) × (at + 9 * n ≤ length s.now) }
     ensures { result ≡ over (read_each 9 kind_at n (drop at s.now)) (replicate 8 plain) }
 {
-    let plain = Kind {
-        residual: Residual::Plain,
-    };
-    let mut kinds = [plain; 8];
+    let mut kinds = [Kind::Plain; 8];
     for (i, k) in kinds[..n].iter_mut().enumerate() {
         *k = kind_at(s, at + 9 * i);
     }

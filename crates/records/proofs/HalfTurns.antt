@@ -10,7 +10,7 @@ use Rattle.floats.specs.Search.{Input, searched}
 use Rattle.floats.proofs.Refusals.{earlier_onward}
 use Rattle.floats.proofs.Search.{Found, searched_append}
 use Rattle.angles.specs.Kinds.{half_of}
-use Rattle.angles.specs.declared.Kind.{Kind}
+use Rattle.angles.specs.Kinds.{Kind}
 use Rattle.filter.specs.Asked.{every}
 use Rattle.filter.specs.Load.{turn_inputs}
 

@@ -7,7 +7,7 @@ use lib.ListN.{length, take, length-append}
 use lib.Seq.{sets, length-take-le}
 use lib.Ieee.{Float}
 use Rattle.floats.specs.Fronts.{over}
-use Rattle.angles.specs.declared.Kind.{Kind}
+use Rattle.angles.specs.Kinds.{Kind}
 use Rattle.std.proofs.lemmas.List.{length-take}
 use Rattle.pieces.specs.Bytes.{number_bytes, number_at, kind_bytes, kind_at, written}
 use Rattle.pieces.proofs.Laws.{written_append, length_written}

@@ -11,19 +11,20 @@ use lib.ListN.{length, take, drop, replicate, get_or}
 use lib.Seq.{take_at, drop_at, drop-drop}
 use lib.Ieee.{Float, Format}
 use Rattle.floats.specs.declared.Verdict.{Verdict}
-use Rattle.floats.specs.Refusal.{RECORD, SHORT, verdict, earlier, Outcome, refused, accepted, refusal, unless, onward, nothing}
+use Rattle.floats.specs.declared.Refusal.TheVariants.{Record as RECORD, Short as SHORT}
+use Rattle.floats.specs.Refusal.{verdict, earlier, Outcome, refused, accepted, refusal, unless, onward, nothing}
 use Rattle.floats.specs.Search.{Input, searched}
 use Rattle.floats.specs.Numbers.{zeros}
 use Rattle.floats.specs.Fronts.{over}
 use Rattle.floats.proofs.Refusals.{gave_zero, gave_number, passed}
 use Rattle.floats.proofs.Search.{Found}
 use Rattle.angles.specs.Kinds.{plain}
-use Rattle.angles.specs.declared.Kind.{Kind}
+use Rattle.angles.specs.Kinds.{Kind}
 use Rattle.pieces.specs.Bytes.{number_at, kind_at, formed, read_each, all_true}
 use Rattle.pieces.proofs.Laws.{length_read, read_add}
-use Rattle.sigma.specs.declared.Params.{Params}
-use Rattle.filter.specs.declared.Filter.{Filter}
-use Rattle.filter.specs.declared.Answer.{Answer}
+use Rattle.sigma.specs.Weights.{Params}
+use Rattle.filter.specs.Types.{Filter}
+use Rattle.filter.specs.Types.{Answer}
 use Rattle.filter.specs.Asked.{Param, by_params, in_range, within, long, fit, every, in_order, guarded}
 use Rattle.filter.specs.Filters.{sheet, filter}
 use Rattle.filter.specs.Records.{numbers, record_length}

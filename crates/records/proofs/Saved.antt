@@ -9,11 +9,12 @@ use lib.Dec.{leb}
 use lib.ListN.{length}
 use lib.Ieee.{Format}
 use Rattle.floats.specs.declared.Verdict.{Verdict}
-use Rattle.floats.specs.Refusal.{FRESH, verdict, taken, earlier, refusal, nothing}
+use Rattle.floats.specs.declared.Refusal.TheVariants.{Fresh as FRESH}
+use Rattle.floats.specs.Refusal.{verdict, taken, earlier, refusal, nothing}
 use Rattle.floats.specs.Search.{searched}
 use Rattle.floats.specs.Fronts.{over}
 use Rattle.floats.proofs.Refusals.{number_of, earlier_first, earlier_second}
-use Rattle.filter.specs.declared.Filter.{Filter}
+use Rattle.filter.specs.Types.{Filter}
 use Rattle.filter.specs.Asked.{Asks, within, long, every, in_range, in_order, guarded, first_refusal}
 use Rattle.filter.specs.Filters.{is_shut, seen, reads}
 use Rattle.filter.specs.Records.{record_length, bytes_of}

@@ -1,9 +1,10 @@
 -- Load (crates/filter/specs/Load.antt) in two parts, as the code takes it: the form of a record, and then what stands in it. Definitions only.
 use Rattle.std.specs.Prelude.{ℕ, Bool, true, false, List, leb, length}
 use Rattle.std.specs.Float.{Format}
-use Rattle.floats.specs.Refusal.{SHORT, Outcome, accepted, unless, onward, nothing}
+use Rattle.floats.specs.declared.Refusal.TheVariants.{Short as SHORT}
+use Rattle.floats.specs.Refusal.{Outcome, accepted, unless, onward, nothing}
 use Rattle.floats.specs.Search.{Input, searched}
-use Rattle.filter.specs.declared.Filter.{Filter}
+use Rattle.filter.specs.Types.{Filter}
 use Rattle.filter.specs.Asked.{Param, within, long, fit, every, in_order}
 use Rattle.filter.specs.Load.{filter_in, is_record, load_asks}
 

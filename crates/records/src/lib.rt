@@ -29,7 +29,7 @@ pub fn record_length(n: usize) -> usize
 }
 
 // The record to the front of out; bytes beyond it stay. Only a stale filter with nothing open is saved.
-pub fn save(f: Filter, out: &mut [u8]) -> Verdict
+pub fn save(f: Filter<f64>, out: &mut [u8]) -> Verdict
     ensures value { result ≡ (step binary64 f (reading (save out.old))).reply.refusal }
     ensures out_after { out.new ≡ over (step binary64 f (reading (save out.old))).reply.bytes out.old }
 {
@@ -49,7 +49,7 @@ pub fn save(f: Filter, out: &mut [u8]) -> Verdict
 }
 
 // A filter with a sheet of its own, stale; refused, the empty filter.
-pub fn load(s: &[u8]) -> Answer
+pub fn load(s: &[u8]) -> Answer<f64>
     ensures { result ≡ load_answer binary64 s.now }
 {
     let refusal = form::form_refusal(s);

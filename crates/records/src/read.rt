@@ -22,8 +22,8 @@ fn contents_refusal(
     x: &[f64],
     p: &[f64],
     q: &[f64],
-    params: Params,
-    kinds: [Kind; 8],
+    params: Params<f64>,
+    kinds: [Kind<f64>; 8],
 ) -> Verdict
     requires { n ≤ 8 }
     ensures { result ≡ refusal (judged binary64 (inputs_for n (from x.now p.now ∷ []) q.now params ++ turn_inputs (take n kinds)) (by_params n params ∷ as_kinds (take n kinds))) }
@@ -41,7 +41,7 @@ fn contents_refusal(
 }
 
 // The filter that a record of this form is of.
-pub fn contents(s: &[u8]) -> Answer
+pub fn contents(s: &[u8]) -> Answer<f64>
     requires { (3 ≤ length s.now) × ((states_in s.now ≤ 8) × ((states_in s.now * states_in s.now ≤ 64) × (record_length (states_in s.now) ≤ length s.now))) }
     ensures { result ≡ answer_of (contents_of binary64 s.now) }
 {

@@ -10,14 +10,11 @@ use angles::Kind;
 use floats::Verdict;
 
 // The search of the half-turns of the first n kinds: each is a lone value, at place 0.
-pub fn first_bad_turn(n: usize, kinds: [Kind; 8]) -> Verdict
+pub fn first_bad_turn(n: usize, kinds: [Kind<f64>; 8]) -> Verdict
     requires { n ≤ 8 }
     ensures { result ≡ refusal (searched (turn_inputs (take n kinds))) }
 {
-    if kinds[..n]
-        .iter()
-        .all(|k| floats::is_finite(angles::half_of(*k)))
-    {
+    if kinds[..n].iter().all(|k| floats::is_finite(k.half())) {
         floats::placeless(0)
     } else {
         floats::placeless(56)
@@ -25,9 +22,9 @@ pub fn first_bad_turn(n: usize, kinds: [Kind; 8]) -> Verdict
 }
 
 // Whether the first n kinds pass 6.
-pub fn turns_pass(n: usize, kinds: [Kind; 8]) -> bool
+pub fn turns_pass(n: usize, kinds: [Kind<f64>; 8]) -> bool
     requires { n ≤ 8 }
     ensures { result ≡ every (passing binary64) (take n kinds) }
 {
-    kinds[..n].iter().all(|k| angles::kind_passes(*k))
+    kinds[..n].iter().all(|k| k.passes())
 }

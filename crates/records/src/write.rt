@@ -7,7 +7,7 @@ use filter::Filter;
 use pieces::{kinds, numbers};
 
 // The record to the front of out; the rest of out stays.
-pub fn put_record(f: Filter, out: &mut [u8])
+pub fn put_record(f: Filter<f64>, out: &mut [u8])
     requires { (f.sheet.n ≤ 8) × ((f.sheet.n * f.sheet.n ≤ 64) × (record_length f.sheet.n ≤ length out.old)) }
     ensures { out.new ≡ over (bytes_of f) out.old }
 {

@@ -10,9 +10,7 @@ use Rattle.floats.specs.Refusal.{Outcome, accepted}
 use Rattle.floats.specs.Numbers.{above_zero}
 use Rattle.root.specs.Definition.{root_of, rooted}
 use Rattle.root.specs.Nearest.{Nearest}
-use Rattle.root.specs.Answer.{outcome_of, root_outcome, Asked}
-use Rattle.root.specs.declared.Root.{Root}
-use Rattle.root.specs.declared.Root.TheVariants.{Value, Refused}
+use Rattle.root.specs.Answer.{root_outcome, Asked}
 use Rattle.root.proofs.Laws.{root_fits, root_above, root_nearest, root_only, zero_nearest}
 
 -- ---- the root over the format
@@ -41,13 +39,6 @@ unfolding root_of
 zero_own f s e = refl
 
 -- ---- what `square_root` answers
--- Each outcome is one case of the enum's: what the contract says is the answer.
-pub one_case : (a b : Root) → outcome_of a ≡ outcome_of b → a ≡ b
-one_case (Value r) (Value q) k = cc
-one_case (Value r) Refused k = let z : ◌≡◌ {A = ℕ} 0 1 = cc in absurd (omega arith)
-one_case Refused (Value q) k = let z : ◌≡◌ {A = ℕ} 0 1 = cc in absurd (omega arith)
-one_case Refused Refused k = refl
-
 -- THE OUTCOME IS WHAT DOCUMENT 01 ASKS, for every value of the format.
 pub asked : (f : Format) (x : Float) → T (fits f x) → Asked f x (root_outcome f x)
 unfolding rooted root_of

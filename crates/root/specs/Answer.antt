@@ -1,16 +1,9 @@
--- What `square_root` answers, over the format: the documents' number, place and value for each case of the enum, and what document 01 asks of an outcome. Definitions only.
+-- What `square_root` answers, over the format: a root or a refusal, and what document 01 asks of an outcome. Definitions only.
 use Rattle.std.specs.Prelude.{◌≡◌, true, false, zero, suc, Float}
 use Rattle.std.specs.Float.{nan, inf, fin, Format}
 use Rattle.floats.specs.Refusal.{bad_lone, Outcome, refused, accepted, unless}
 use Rattle.root.specs.Definition.{root_of, rooted}
 use Rattle.root.specs.Nearest.{Nearest}
-use Rattle.root.specs.declared.Root.{Root}
-use Rattle.root.specs.declared.Root.TheVariants.{Value, Refused}
-
--- each case of the enum: a value is accepted with it, the other case is refusal 56
-abbrev pub outcome_of : Root → Outcome Float
-outcome_of (Value r) = accepted r
-outcome_of Refused = refused bad_lone
 
 -- either a root or refusal 56
 abbrev pub root_outcome : Format → Float → Outcome Float

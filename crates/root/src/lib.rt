@@ -1,176 +1,89 @@
-// IEEE 754's squareRoot of an f64, to nearest, worked from the bits: sign, exponent and fraction.
+// IEEE 754's squareRoot, to nearest, of a number of either width, worked from its bits: sign, exponent and fraction.
 // The answer is a root, or refusal 56 for a NaN, an infinity and what is below zero.
 #![tactic(auto)]
 
-ghost use Rattle.std.specs.Prelude.{◌≡◌, true, ℕ, ◌*◌, ◌^◌, ◌≤◌, ◌<◌};
-ghost use Rattle.std.specs.Float.{binary64};
-ghost use Rattle.std.specs.Float.Ieee.{of_bits};
+ghost use Rattle.std.specs.Prelude.{◌≡◌, ℕ, ◌+◌, ◌-◌, ◌*◌, ◌/◌, ◌^◌, ◌≤◌, ◌<◌, Result};
+ghost use Rattle.std.specs.Float.Ieee.{prec, low, hid, ones, of_bits};
 ghost use Rattle.root.specs.Definition.{root_of, root_units, near_root};
-ghost use Rattle.root.specs.Answer.{outcome_of, root_outcome};
+ghost use Rattle.root.specs.Answer.{root_outcome};
 
-#[derive(Clone, Copy)]
-pub enum Root {
-    Value(f64),
-    Refused,
-}
+use floats::{Refusal, Slice};
 
-// The whole number nearest to the root of d * 2^52, a digit at a time from the top. The root is
-// between q and q + b, and y * b is twice what d * 2^52 has above q * q. No root of a whole number
+mod rooted;
+mod wide;
+
+pub use rooted::Rooted;
+
+// The whole number nearest to the root of d * 2^(DIGITS - 1), a digit at a time from the top. Before the digit at 2^i is looked for, the root is
+// between q and q + 2^(i + 1), and y * 2^(i + 1) is twice what d * 2^(DIGITS - 1) has above q * q. No root of a whole number
 // lies at a half, so nothing is decided by ties.
-fn root_digits(d: u64) -> u64
-    requires { d < 2 ^ 54 }
-    ensures { result ≡ near_root 53 (d * 2 ^ 52) }
+fn root_digits<const DIGITS: u32>(d: u64) -> u64
+    requires digits { (0 < DIGITS) × (DIGITS ≤ 60) }
+    requires one_more { d < 2 ^ (DIGITS + 1) }
+    ensures { result ≡ near_root DIGITS (d * 2 ^ (DIGITS - 1)) }
 {
-    let mut i: u64 = 53;
-    let mut b: u64 = 0x20_0000_0000_0000;
     let mut q: u64 = 0;
     let mut y: u64 = d;
-    while i > 0 {
-        let h = b / 2;
+    for i in (0..DIGITS).rev() {
+        let h: u64 = 1 << i;
         let t = 2 * q + h;
         if t <= y {
-            q = q + h;
-            y = y - t;
+            q += h;
+            y -= t;
         }
-        y = 2 * y;
-        b = h;
-        i = i - 1;
+        y *= 2;
     }
     if y > 2 * q { q + 1 } else { q }
 }
 
-// Whether q is the whole number nearest to the root of N = d * 2^52, with no root worked out: whether (q - 1/2)^2 < N < (q + 1/2)^2,
-// that is, whether q * q + q is not below N, and above it by less than 2 * q. The halves h and l of q keep the products within 64 bits.
-// For d = 0 the answer is no.
-fn is_nearest_root(d: u64, q: u64) -> bool
-    requires { d < 2 ^ 54 }
-    ensures { (result ≡ true → q ≡ near_root 53 (d * 2 ^ 52)) × (0 < d → q ≡ near_root 53 (d * 2 ^ 52) → result ≡ true) }
-{
-    if q > 0x20_0000_0000_0000 {
-        return false;
-    }
-    let h = q / 0x400_0000;
-    let l = q % 0x400_0000;
-    // q * q + q is first * 2^52 and the last 26 digits of middle and of last
-    let last = l * (l + 1);
-    let middle = h * (2 * l + 1) + last / 0x400_0000;
-    let first = h * h + middle / 0x400_0000;
-    if first < d {
-        return false;
-    }
-    let above = first - d;
-    // 2 * q is no more than 4 * 2^52
-    if above > 3 {
-        return false;
-    }
-    let rest = above * 0x10_0000_0000_0000 + middle % 0x400_0000 * 0x400_0000 + last % 0x400_0000;
-    if rest >= 2 * q {
-        return false;
-    }
-    true
-}
-
-// The product of the last 32 digits of a and of b.
-fn product(a: u64, b: u64) -> u64 {
-    (a % 0x1_0000_0000) * (b % 0x1_0000_0000)
-}
-
-// That product divided by 2^31.
-fn high_part(a: u64, b: u64) -> u64
-    ensures { result < 2 ^ 33 }
-{
-    product(a, b) / 0x8000_0000
-}
-
-// A guess at the whole number nearest to the root of d * 2^52, for a d of 53 or 54 digits. Nothing is promised of it: it is judged.
-// It multiplies numbers of 32 digits and divides by powers of two alone, so that a small processor is quick at it too.
-// With m = d / 2^54, s is to be the root of m in units of 2^-32, and r is to be 1 / s in units of 2^-31. A parabola in 1 - m gives r to 3 %.
-// Each step multiplies both by (3 - s * r) / 2, which brings s * r to 1 with twice the digits. Then s is short by less than 8 units (tried, not
-// proved), and what m has above s * s gives the rest: a 16th of that still has no more than 32 digits.
-fn guessed_root(d: u64) -> u64
-    requires { d < 2 ^ 54 }
-{
-    // 1 - m in units of 2^-31
-    let t = 0x8000_0000 - d / 0x80_0000;
-    let mut r = 2_145_000_000 + high_part(t, 322_000_000 + high_part(t, 3_178_000_000));
-    let mut s = high_part(d / 0x40_0000, r);
-    let mut i: u64 = 0;
-    while i < 3 {
-        // 3 in units of 2^-30, less a little, so that s stays below the root
-        let v = 0xbfff_fffe - high_part(s, r) / 4;
-        s = high_part(s, v);
-        r = high_part(r, v);
-        i = i + 1;
-    }
-    let n = 1024 * d;
-    let square = product(s, s);
-    // not met for such a d, but what is taken away must not be the larger
-    if n < square {
-        return 0;
-    }
-    // the rest in units of 1/256: 128 of them round, and 2 make up for some of what was cut off
-    0x20_0000 * s + (high_part((n - square) / 16, r) + 130) / 256
-}
-
-// The whole number nearest to the root of d * 2^52: a guess that is judged to be it, or else digit by digit.
-fn nearest_root(d: u64) -> u64
-    requires { d < 2 ^ 54 }
-    ensures { result ≡ near_root 53 (d * 2 ^ 52) }
-{
-    let q = guessed_root(d);
-    if is_nearest_root(d, q) {
-        return q;
-    }
-    root_digits(d)
-}
-
-// The root of n units of 2^-1074 where n * 2^1022 = s * 2^a and s has all 53 digits: of s * 2^(a - 1022 - 1074).
-// One digit goes over to s where a is odd. The whole number nearest to the root of s * 2^52 then has 53 digits too, and half of a,
+// The root of n units of the format's smallest number where n * 2^LOWEST = s * 2^a and s has all the format's digits.
+// One digit goes over to s where a is odd. The whole number nearest to the root of s * LEADING then has all digits too, and half of a,
 // with the one that the left-out leading digit stands for, is the exponent's field.
-fn normal_root(s: u64, a: u64) -> f64
-    requires { (2 ^ 52 ≤ s) × (s < 2 ^ 53) × (a < 3068) }
-    ensures { (n : ℕ) → n * 2 ^ 1022 ≡ s * 2 ^ a → result ≡ root_units binary64 n }
+fn normal_root<T: Rooted>(s: u64, a: u64) -> T
+    requires digits { (hid T.format ≤ s) × (s < 2 ^ prec T.format) }
+    requires exponent { a / 2 + 1 < ones T.format }
+    ensures { (n : ℕ) → n * 2 ^ (low T.format - (prec T.format - 1)) ≡ s * 2 ^ a → T.float result ≡ root_units T.format n }
 {
     let d = if a & 1 == 1 { 2 * s } else { s };
-    let q = nearest_root(d);
+    let q = T::nearest_root(d);
     let exponent = (a >> 1) + 1;
-    // the format leaves out the leading digit of q, which has 53
-    let fraction = q & 0xf_ffff_ffff_ffff;
-    f64::from_bits((exponent << 52) | fraction)
+    // the format leaves out the leading digit of q
+    let fraction = q & (T::LEADING - 1);
+    T::of_bits((exponent << T::PLACES) | fraction)
 }
 
 // The root of the value that the bits b stand for: finite, and above zero.
-fn positive_root(b: u64) -> f64
-    requires { (0 < b) × (b < 0x7ff0_0000_0000_0000) }
-    ensures { result ≡ root_of binary64 (of_bits binary64 b) }
+fn positive_root<T: Rooted>(b: u64) -> T
+    requires { (0 < b) × (b < ones T.format * hid T.format) }
+    ensures { T.float result ≡ root_of T.format (of_bits T.format b) }
 {
-    let exponent = b >> 52;
-    let fraction = b & 0xf_ffff_ffff_ffff;
+    let exponent = b >> T::PLACES;
+    let fraction = b & (T::LEADING - 1);
     if exponent == 0 {
-        // a subnormal has no leading digit: its fraction is shifted up until it has 53 digits of the 64
-        let z = u64::leading_zeros(fraction) - 11;
-        normal_root(fraction << z, 1022 - z as u64)
+        // a subnormal has no leading digit: its fraction is shifted up until it has all the format's digits
+        let z = fraction.leading_zeros() - (63 - T::PLACES);
+        normal_root(fraction << z, T::LOWEST - z as u64)
     } else {
-        normal_root(fraction | 0x10_0000_0000_0000, exponent + 1021)
+        normal_root(fraction | T::LEADING, exponent + T::LOWEST - 1)
     }
 }
 
-// The double nearest to the root of x. A NaN, an infinity and what is below zero are refused: IEEE 754 gives the infinity a root, but no finite one.
-pub fn square_root(x: f64) -> Root
-    ensures { outcome_of result ≡ root_outcome binary64 x }
+// The value of the format nearest to the root of x. A NaN, an infinity and what is below zero are refused: IEEE 754 gives the infinity a root, but no finite one.
+pub fn square_root<T: Rooted>(x: T) -> Result<T, Refusal>
+    ensures { T.seen (λ A. Result A Refusal) result ≡ root_outcome T.format (T.float x) }
 {
     // a NaN has no one pattern, so it is told before the bits are taken
     if x != x {
-        return Root::Refused;
+        return Err(Refusal::Number(Slice::Lone, 0));
     }
-    let b = f64::to_bits(x);
+    let b = x.bits();
     // nothing but a sign: a zero is its own root
-    if b & 0x7fff_ffff_ffff_ffff == 0 {
-        return Root::Value(x);
+    if b & (T::SIGN - 1) == 0 {
+        return Ok(x);
     }
-    // sign and exponent as one: an infinity has 0x7ff, what is below zero 0x800 or more
-    if b >> 52 >= 0x7ff {
-        return Root::Refused;
+    // sign and exponent as one: an infinity has INFINITE, what is below zero more
+    if b >> T::PLACES >= T::INFINITE {
+        return Err(Refusal::Number(Slice::Lone, 0));
     }
-    Root::Value(positive_root(b))
+    Ok(positive_root(b))
 }

@@ -2,7 +2,7 @@
 // The input is read in pieces; a line is gathered from them and answered, and what the answers gather is written once the lines of a piece are done.
 #![tactic(auto)]
 
-use filter32::Filter;
+use filter::Filter;
 use lines::answers;
 use lines::held::Held;
 use script::Name;
@@ -13,51 +13,47 @@ use std::io::Read;
 #[derive(Clone, Copy)]
 struct Left {
     held: Held,
-    narrow: Filter,
+    narrow: Filter<f32>,
     used: usize,
 }
 
-// What is held, how many bytes of the line that is being read are there, how many bytes of answers wait, and whether the input goes on.
+// What the lines so far have left, how many bytes of the line that is being read are there, and whether the input goes on.
 #[derive(Clone, Copy)]
 struct Progress {
-    held: Held,
-    narrow: Filter,
+    left: Left,
     line: usize,
-    used: usize,
     going: bool,
 }
 
 fn start(held: Held) -> Progress {
     Progress {
-        held,
-        narrow: lines32::start(),
+        left: Left {
+            held,
+            narrow: lines::start_narrow(),
+            used: 0,
+        },
         line: 0,
-        used: 0,
         going: true,
     }
 }
 
 // @w CALL
 fn on_narrow(left: Left, s: &[u8], at: usize, out: &mut [u8]) -> Left {
-    let held = left.held;
-    let turn = lines32::answer(left.narrow, s, at, out, left.used);
-    let narrow = turn.held;
+    let turn = lines::answer_narrow(left.narrow, s, at, out, left.used);
     Left {
-        held,
-        narrow,
+        narrow: turn.held,
         used: turn.used,
+        ..left
     }
 }
 
 // Every other line.
 fn on_wide(left: Left, name: Name, s: &[u8], at: usize, out: &mut [u8]) -> Left {
-    let narrow = left.narrow;
     let turn = lines::answer(left.held, name, s, at, out, left.used);
-    let held = turn.held;
     Left {
-        held,
-        narrow,
+        held: turn.held,
         used: turn.used,
+        ..left
     }
 }
 
@@ -66,24 +62,20 @@ fn code(left: Left, s: &[u8], out: &mut [u8]) -> Left {
     if script::no_token(s, 0) {
         return left;
     }
-    let named = script::call_at(s, 0);
-    let at = named.next;
-    let name = named.name;
-    match name {
-        Name::Narrow => on_narrow(left, s, at, out),
-        _ => on_wide(left, name, s, at, out),
+    let call = script::call_at(s, 0);
+    match call.name {
+        Name::Narrow => on_narrow(left, s, call.next, out),
+        name => on_wide(left, name, s, call.next, out),
     }
 }
 
 // A line that is too long is no call.
 fn too_long(left: Left, out: &mut [u8]) -> Left {
-    let narrow = left.narrow;
     let turn = answers::bad(left.held, out, left.used);
-    let held = turn.held;
     Left {
-        held,
-        narrow,
+        held: turn.held,
         used: turn.used,
+        ..left
     }
 }
 
@@ -111,22 +103,12 @@ fn make_room(rt: &impl Print, out: &[u8], used: usize) -> io::Result<usize> {
 
 // Answers a line that has come to its end.
 fn end_line(rt: &impl Print, run: Progress, line: &[u8], out: &mut [u8]) -> io::Result<Progress> {
-    let held = run.held;
-    let narrow = run.narrow;
-    let left = Left {
-        held,
-        narrow,
-        used: run.used,
-    };
-    let left = answer(left, line, run.line, out);
-    let held = left.held;
-    let narrow = left.narrow;
+    let mut left = answer(run.left, line, run.line, out);
+    left.used = make_room(rt, out, left.used)?;
     Ok(Progress {
-        held,
-        narrow,
+        left,
         line: 0,
-        used: make_room(rt, out, left.used)?,
-        going: run.going,
+        ..run
     })
 }
 
@@ -139,12 +121,15 @@ fn take_line(
     line: &mut [u8],
     out: &mut [u8],
 ) -> io::Result<Progress> {
-    let mut next = run;
-    next.line = script::gather(line, run.line, part);
+    let next = Progress {
+        line: script::gather(line, run.line, part),
+        ..run
+    };
     if ended {
-        return end_line(rt, next, line, out);
+        end_line(rt, next, line, out)
+    } else {
+        Ok(next)
     }
-    Ok(next)
 }
 
 // The lines of a piece; what is left of it is the start of the next line.
@@ -156,11 +141,11 @@ fn take_piece(
     out: &mut [u8],
 ) -> io::Result<Progress> {
     let mut next = run;
-    let mut at = 0usize;
-    while at < piece.len() {
-        let end = script::line_end(piece, at);
-        next = take_line(rt, next, &piece[at..end], end < piece.len(), line, out)?;
-        at = end + 1;
+    for text in piece.split_inclusive(|c| *c == b'\n') {
+        next = match text.strip_suffix(b"\n") {
+            Some(whole) => take_line(rt, next, whole, true, line, out)?,
+            None => take_line(rt, next, text, false, line, out)?,
+        };
     }
     Ok(next)
 }
@@ -177,25 +162,13 @@ fn read_piece(
     let got = input.read(piece)?;
     if got == 0 {
         let mut last = end_line(rt, run, line, out)?;
-        last.used = flush(rt, out, last.used)?;
+        last.left.used = flush(rt, out, last.left.used)?;
         last.going = false;
         return Ok(last);
     }
     let mut next = take_piece(rt, run, script::first(piece, got), line, out)?;
-    next.used = flush(rt, out, next.used)?;
+    next.left.used = flush(rt, out, next.left.used)?;
     Ok(next)
-}
-
-// The same on the arrays of run.
-fn step(
-    rt: &impl Print,
-    input: &mut impl Read,
-    run: Progress,
-    piece: &mut [u8; 65536],
-    line: &mut [u8; 16385],
-    out: &mut [u8; 65536],
-) -> io::Result<Progress> {
-    read_piece(rt, input, run, piece, line, out)
 }
 
 // The whole script, from what is held before its first line to what is held after its last; the f32 filter is empty at first.
@@ -211,7 +184,7 @@ pub fn run(rt: &(impl Input + Print), held: Held) -> io::Result<Held> {
         if !run.going {
             break;
         }
-        run = step(rt, &mut input, run, &mut piece, &mut line, &mut out)?;
+        run = read_piece(rt, &mut input, run, &mut piece, &mut line, &mut out)?;
     }
-    Ok(run.held)
+    Ok(run.left.held)
 }

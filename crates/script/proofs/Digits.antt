@@ -2,118 +2,130 @@
 use mathlib.Core.Path.{◌≡◌, refl, sym, ap, ◌∙◌, subst}
 use mathlib.Core.Bool.{Bool, true, false, ◌&&◌, cond}
 use mathlib.Core.List.{List, [], ◌∷◌}
-use Prim.Native.Nat.{ℕ, zero, suc, ◌+◌, ◌-◌, ◌*◌, ◌/◌, ◌%◌, ◌≤◌, ◌<◌}
+use Prim.Native.Nat.{ℕ, suc, ◌+◌, ◌-◌, ◌*◌, ◌/◌, ◌%◌, ◌≤◌, ◌<◌}
 use native.Mathlib.Numerals.{add-one}
 use native.Mathlib.Omega.{arith}
-use borrow.Author.Tests.{leb-true, eqb-true, le-leb, lt-leb, lt-ltb, le-ltb, eq-eqb, ne_eqb}
+use borrow.Author.Tests.{leb-true, ltb-true, eqb-true, lt-ltb, le-ltb}
 use lib.Dec.{eqb, leb, ltb}
 use lib.ListN.{length, get_or, set, drop, drop_of_length-le}
 use lib.Seq.{drop-cons}
+use Rattle.std.specs.Prelude.{Option, None, Some}
 use Rattle.io.specs.Digits.{last_digits, IsDigitCount}
-use Rattle.words.specs.Words.{digit_of}
-use Rattle.script.specs.Text.{token_of, part_of, same_bytes}
+use Rattle.words.specs.Words.{digit_of, digit_in}
+use Rattle.words.proofs.Digits.{is_digit, is_no_digit}
+use Rattle.script.specs.Text.{found, token_of, part_of, same_bytes}
+use Rattle.script.specs.declared.text.Read.{Read}
 use Rattle.script.specs.Page.{Page, page, put_of}
-use Rattle.script.specs.Hex.{byte_of, pairs_in, Taken, bytes_from, some_from, bytes_in, bytes_of, put_byte, put_each, put_bytes}
+use Rattle.script.specs.Hex.{byte_of, pairs_in, Taken, on_byte, bytes_from, some_from, bytes_in, bytes_of, put_byte, put_each, put_bytes}
 use Rattle.script.specs.declared.text.Token.{Token}
-use Rattle.script.specs.declared.hex.BytesRead.{BytesRead}
-use Rattle.script.specs.declared.hex.BytesRead.TheVariants.{Bytes, NoBytes}
 use Rattle.script.proofs.Sizes.{token_in}
 use Rattle.script.proofs.Pages.{Shows, shows, made, same_size, just}
 
--- two digits of a byte, or where one of them is none
-module _ (s : List ℕ) (i : ℕ) {a b : ℕ} (e : a ≡ digit_of (get_or s i 0)) (g : b ≡ digit_of (get_or s (i + 1) 0)) where
-  pub no_high : 16 ≤ a → 256 ≡ byte_of s i
+-- two digits of a byte, or one that is none
+module _ (s : List ℕ) (i : ℕ) where
+  pub both_digits : {a b : ℕ} → Some a ≡ digit_in (get_or s i 0) → Some b ≡ digit_in (get_or s (i + 1) 0) → Some (a * 16 + b) ≡ byte_of s i
   unfolding byte_of
-  no_high h = rw (sym e, le-ltb a 16 h)
+  both_digits {a} {b} e g =
+      let p = is_digit (get_or s i 0) e in
+      let q = is_digit (get_or s (i + 1) 0) g in
+      rw (sym p.1, sym q.1, lt-ltb a 16 p.0, lt-ltb b 16 q.0)
 
-  pub no_low : a < 16 → 16 ≤ b → 256 ≡ byte_of s i
+  pub no_high : None ≡ digit_in (get_or s i 0) → None ≡ byte_of s i
   unfolding byte_of
-  no_low h l = rw (sym e, sym g, lt-ltb a 16 h, le-ltb b 16 l)
+  no_high e = rw (le-ltb (digit_of (get_or s i 0)) 16 (is_no_digit (get_or s i 0) e))
 
-  pub both_digits : a < 16 → b < 16 → a * 16 + b ≡ byte_of s i
+  pub no_low : None ≡ digit_in (get_or s (i + 1) 0) → None ≡ byte_of s i
   unfolding byte_of
-  both_digits h l = rw (sym e, sym g, lt-ltb a 16 h, lt-ltb b 16 l)
-
-pub too_many : (d : ℕ) → 8192 < d → 0 ≡ pairs_in d
-too_many d h = rw (lt-leb d 8192 h)
-
-pub half_left : (d : ℕ) → d ≤ 8192 → d % 2 ≡ 1 → 0 ≡ pairs_in d
-half_left d h e = rw (le-leb d 8192 h, ne_eqb (d % 2) 0 (λ z. omega arith))
-
-pub all_pairs : (d : ℕ) → d ≤ 8192 → (d % 2 ≡ 1 → ⊥) → d / 2 ≡ pairs_in d
-all_pairs d h e = let z : d % 2 ≡ 0 = omega arith in rw (le-leb d 8192 h, eq-eqb (d % 2) 0 z)
+  no_low e = rw (le-ltb (digit_of (get_or s (i + 1) 0)) 16 (is_no_digit (get_or s (i + 1) 0) e)) (either (ltb (digit_of (get_or s i 0)) 16) _)
+    where
+      either : (t : Bool) (n : ℕ) → None ≡ cond (t && false) (Some n) None
+      either true n = refl
+      either false n = refl
 
 -- what was read and the bytes afterwards, part by part
-abbrev pub Ends : BytesRead → List ℕ → Taken → Type 0
+abbrev pub Ends : Option (Read ℕ) → List ℕ → Taken → Type 0
 Ends r l w = (r ≡ w.read) × (l ≡ w.bytes)
 
-ends : {r : BytesRead} {l : List ℕ} {w : Taken} → record { read = r; bytes = l } ≡ w → Ends r l w
+ends : {r : Option (Read ℕ)} {l : List ℕ} {w : Taken} → record { read = r; bytes = l } ≡ w → Ends r l w
 ends e = (ap (λ (g : Taken). g.read) e, ap (λ (g : Taken). g.bytes) e)
 
--- i of len bytes are at the front of l, and what is left comes to all of them
-pub record Got (s : List ℕ) (at : ℕ) (l₀ : List ℕ) (len i place : ℕ) (l : List ℕ) : Type 0 where
+-- i of len bytes of the token are at the front of l, and what is left comes to all of them
+pub record Got (s : List ℕ) (at : ℕ) (l₀ : List ℕ) (t : Token) (len i : ℕ) (l : List ℕ) : Type 0 where
   pub few : len ≤ 4096
   pub short : i ≤ len
-  pub inside : place + 2 * (len - i) ≤ length s
-  pub comes : bytes_from (len - i) s place i l ≡ bytes_of s at l₀
+  pub whole : t.start + 2 * len ≡ t.end
+  pub inside : t.end ≤ length s
+  pub comes : bytes_from (len - i) s (t.start + 2 * i) i l ≡ bytes_of s at l₀
 
-whole : (d k : ℕ) → k ≡ pairs_in d → (k ≡ 0 → ⊥) → (2 * k ≡ d) × (k ≤ 4096)
-whole d k e n = go (leb d 8192) (eqb (d % 2) 0) (leb-true d 8192) (eqb-true (d % 2) 0) e
+-- a number of digits that is whole bytes
+pub record Paired (d k : ℕ) : Type 0 where
+  pub all : 2 * k ≡ d
+  pub some : 0 < d
+  pub few : k ≤ 4096
+
+paired : {d k : ℕ} → Some k ≡ pairs_in d → Paired d k
+paired {d} {k} e = go (ltb 0 d) (leb d 8192) (eqb (d % 2) 0) (ltb-true 0 d) (leb-true d 8192) (eqb-true (d % 2) 0) e
   where
-    go : (a b : Bool) → (a ≡ true → d ≤ 8192) → (b ≡ true → d % 2 ≡ 0) → k ≡ cond (a && b) (d / 2) 0 → (2 * k ≡ d) × (k ≤ 4096)
-    go true true f g e = let x = f refl in let y = g refl in (omega arith, omega arith)
-    go true false f g e = absurd (n e)
-    go false b f g e = absurd (n e)
-
-some : (k : ℕ) (s : List ℕ) (at : ℕ) (l : List ℕ) → (k ≡ 0 → ⊥) → bytes_from (k - 0) s at 0 l ≡ some_from k s at l
-some zero s at l n = absurd (n refl)
-some (suc k) s at l n = let e : suc k - 0 ≡ suc k = omega arith in ap (λ (j : ℕ). bytes_from j s at 0 l) e
+    go : (a b c : Bool) → (a ≡ true → 0 < d) → (b ≡ true → d ≤ 8192) → (c ≡ true → d % 2 ≡ 0) → Some k ≡ cond (a && b && c) (Some (d / 2)) None → Paired d k
+    go true true true f g h e =
+        let x = f refl in
+        let y = g refl in
+        let z = h refl in
+        let q : k ≡ d / 2 = cc in
+        record { all = omega arith; some = x; few = omega arith }
+    go true true false f g h e = absurd (cc)
+    go true false c f g h e = absurd (cc)
+    go false b c f g h e = absurd (cc)
 
 module _ (s : List ℕ) (at : ℕ) (l : List ℕ) {t : Token} (e : t ≡ token_of s at) where
-  pub dash : same_bytes (part_of s t) (45 ∷ []) ≡ true → Ends (Bytes 0 t.end) l (bytes_of s at l)
+  pub dash : same_bytes (part_of s t) (45 ∷ []) ≡ true → Ends (found 0 t.end) l (bytes_of s at l)
   dash h = ends (rw h at (ap (bytes_in s l) e))
 
-  pub no_pair : {k : ℕ} → same_bytes (part_of s t) (45 ∷ []) ≡ false → k ≡ pairs_in (t.end - t.start) → k ≡ 0 → Ends NoBytes l (bytes_of s at l)
-  no_pair {k} h p z = ends (sym (ap (λ (n : ℕ). some_from n s t.start l) (sym p ∙ z)) ∙ rw h at (ap (bytes_in s l) e))
+  pub no_pair : same_bytes (part_of s t) (45 ∷ []) ≡ false → None ≡ pairs_in (t.end - t.start) → Ends None l (bytes_of s at l)
+  no_pair h p = ends (ap (λ (n : Option ℕ). some_from n s t.start l) p ∙ rw h at (ap (bytes_in s l) e))
 
-  pub got_none : {k : ℕ} → same_bytes (part_of s t) (45 ∷ []) ≡ false → k ≡ pairs_in (t.end - t.start) → (k ≡ 0 → ⊥) → Got s at l k 0 t.start l
-  got_none {k} h p n =
-      let w = whole (t.end - t.start) k p n in
-      let i : t.end ≤ length s = subst (λ (u : Token). u.start < u.end → u.end ≤ length s) (sym e) (token_in s at) (omega (arith, w.0)) in
+  pub got_none : {k : ℕ} → same_bytes (part_of s t) (45 ∷ []) ≡ false → Some k ≡ pairs_in (t.end - t.start) → Got s at l t k 0 l
+  got_none {k} h p =
+      let w = paired {d = t.end - t.start} {k = k} p in
       record {
-        few = w.1;
+        few = w.few;
         short = omega arith;
-        inside = omega (arith, w.0);
-        comes = some k s t.start l n ∙ ap (λ (n : ℕ). some_from n s t.start l) p ∙ rw h at (ap (bytes_in s l) e);
+        whole = omega (arith, w.all, w.some);
+        inside = subst (λ (u : Token). u.start < u.end → u.end ≤ length s) (sym e) (token_in s at) (omega (arith, w.some));
+        comes =
+            ap (λ (n : ℕ). bytes_from n s (t.start + 2 * 0) 0 l) (omega arith) ∙ ap (λ (n : ℕ). bytes_from k s n 0 l) (omega arith)
+            ∙ ap (λ (n : Option ℕ). some_from n s t.start l) p ∙ rw h at (ap (bytes_in s l) e);
       }
 
-one : (k : ℕ) (s : List ℕ) (at i : ℕ) (l : List ℕ)
-    → bytes_from (suc k) s at i l ≡ cond (ltb (byte_of s at) 256) (bytes_from k s (at + 2) (i + 1) (set l i (byte_of s at))) (record { read = NoBytes; bytes = l })
+one : (k : ℕ) (s : List ℕ) (at i : ℕ) (l : List ℕ) → bytes_from (suc k) s at i l ≡ on_byte (byte_of s at) i l (λ m. bytes_from k s (at + 2) (i + 1) m)
 unfolding bytes_from
 one k s at i l = refl
 
-none : (s : List ℕ) (at i : ℕ) (l : List ℕ) → bytes_from 0 s at i l ≡ record { read = Bytes i at; bytes = l }
+none : (s : List ℕ) (at i : ℕ) (l : List ℕ) → bytes_from 0 s at i l ≡ record { read = found i at; bytes = l }
 unfolding bytes_from
 none s at i l = refl
 
-module _ {s : List ℕ} {at : ℕ} {l₀ : List ℕ} {len i place : ℕ} {l : List ℕ} (r : Got s at l₀ len i place l) where
-  next_one : {b : ℕ} → i < len → b ≡ byte_of s place
-      → cond (ltb b 256) (bytes_from (len - (i + 1)) s (place + 2) (i + 1) (set l i b)) (record { read = NoBytes; bytes = l }) ≡ bytes_of s at l₀
-  next_one h e =
+module _ {s : List ℕ} {at : ℕ} {l₀ : List ℕ} {t : Token} {len i : ℕ} {l : List ℕ} (r : Got s at l₀ t len i l) where
+  next_one : {b : Option ℕ} → i < len → b ≡ byte_of s (t.start + 2 * i) → on_byte b i l (λ m. bytes_from (len - (i + 1)) s (t.start + 2 * (i + 1)) (i + 1) m) ≡ bytes_of s at l₀
+  next_one {b} h e =
       let n : suc (len - (i + 1)) ≡ len - i = omega arith in
-      ap (λ (b : ℕ). cond (ltb b 256) (bytes_from (len - (i + 1)) s (place + 2) (i + 1) (set l i b)) (record { read = NoBytes; bytes = l })) e
-      ∙ sym (one (len - (i + 1)) s place i l) ∙ ap (λ (k : ℕ). bytes_from k s place i l) n ∙ r.comes
+      let p : t.start + 2 * (i + 1) ≡ t.start + 2 * i + 2 = omega arith in
+      ap (λ (k : ℕ). on_byte b i l (λ m. bytes_from (len - (i + 1)) s k (i + 1) m)) p
+      ∙ ap (λ (b : Option ℕ). on_byte b i l (λ m. bytes_from (len - (i + 1)) s (t.start + 2 * i + 2) (i + 1) m)) e
+      ∙ sym (one (len - (i + 1)) s (t.start + 2 * i) i l) ∙ ap (λ (k : ℕ). bytes_from k s (t.start + 2 * i) i l) n ∙ r.comes
 
-  pub got_more : {b : ℕ} → i < len → b ≡ byte_of s place → b < 256 → Got s at l₀ len (i + 1) (place + 2) (set l i b)
-  got_more {b} h e m = record { few = r.few; short = omega arith; inside = omega (arith, r.inside); comes = rw (lt-ltb b 256 m) at (next_one h e) }
+  pub got_more : {b : ℕ} → i < len → Some b ≡ byte_of s (t.start + 2 * i) → Got s at l₀ t len (i + 1) (set l i b)
+  got_more h e = record { few = r.few; short = omega arith; whole = r.whole; inside = r.inside; comes = next_one h e }
 
-  pub got_not : {b : ℕ} → i < len → b ≡ byte_of s place → 256 ≤ b → Ends NoBytes l (bytes_of s at l₀)
-  got_not {b} h e m = ends (rw (le-ltb b 256 m) at (next_one h e))
+  pub got_not : i < len → None ≡ byte_of s (t.start + 2 * i) → Ends None l (bytes_of s at l₀)
+  got_not h e = ends (next_one h e)
 
-  pub got_end : len ≤ i → Ends (Bytes i place) l (bytes_of s at l₀)
+  pub got_end : len ≤ i → Ends (found len t.end) l (bytes_of s at l₀)
   got_end h =
       let n : 0 ≡ len - i = omega arith in
-      ends (sym (none s place i l) ∙ ap (λ (k : ℕ). bytes_from k s place i l) n ∙ r.comes)
+      let k : len ≡ i = omega (arith, r.short) in
+      let p : t.end ≡ t.start + 2 * i = omega (arith, r.whole) in
+      ends (ap (λ (k : ℕ). record { read = found k t.end; bytes = l }) k ∙ ap (λ (p : ℕ). record { read = found i p; bytes = l }) p ∙ sym (none s (t.start + 2 * i) i l) ∙ ap (λ (k : ℕ). bytes_from k s (t.start + 2 * i) i l) n ∙ r.comes)
 
 -- two hex digits hold a byte
 pub two : (b k : ℕ) {t : List ℕ} → IsDigitCount 16 2 b k → b < 256 → t ≡ last_digits 16 k b → t ≡ last_digits 16 2 b

@@ -1,26 +1,27 @@
--- What a token is read as where a kind should stand. Assumes nothing.
+-- Tests made on the bytes of a token. Assumes nothing.
 use mathlib.Core.Path.{◌≡◌, sym, ap, ◌∙◌}
 use mathlib.Core.Bool.{Bool, true, false}
 use mathlib.Core.List.{List, [], ◌∷◌}
 use Prim.Native.Nat.{ℕ}
-use lib.Ieee.{Format}
-use Rattle.angles.specs.declared.Residual.TheVariants.{Plain}
-use Rattle.script.specs.Text.{part_of, same_bytes}
-use Rattle.script.specs.Numbers.{number_of, turn_of, kind_in}
+use lib.Ieee.{Float, Format}
+use Rattle.std.specs.Prelude.{Option, None}
+use Rattle.angles.specs.declared.Kind.TheVariants.{Plain}
+use Rattle.script.specs.Text.{found, token_of, part_of, same_bytes}
+use Rattle.script.specs.Numbers.{number_of, turn_of, kind_in, kind_of}
+use Rattle.script.specs.declared.text.Read.{Read}
 use Rattle.script.specs.declared.text.Token.{Token}
-use Rattle.script.specs.declared.numbers.NumberRead.{NumberRead}
-use Rattle.script.specs.declared.numbers.KindRead.TheVariants.{Told, NoKind}
 
 -- a test that was made on a token's bytes
 pub tested : (s : List ℕ) (t : Token) {l : List ℕ} {a b : Bool} (w : List ℕ) → l ≡ part_of s t → a ≡ same_bytes l w → a ≡ b → same_bytes (part_of s t) w ≡ b
-tested s t w h e f = ap (λ (m : List ℕ). same_bytes m w) (sym h) ∙ sym e ∙ f
+tested s t {l} w h e f = ap (λ (m : List ℕ). same_bytes m w) (sym h) ∙ sym e ∙ f
 
-module _ (f : Format) (s : List ℕ) (t : Token) where
-  pub plain_told : same_bytes (part_of s t) (112 ∷ []) ≡ true → Told (record { residual = Plain }) t.end ≡ kind_in f s t
-  plain_told h = rw h
+module _ (f : Format) (s : List ℕ) (at : ℕ) {t : Token} (e : t ≡ token_of s at) where
+  pub plain_there : same_bytes (part_of s t) (112 ∷ []) ≡ true → found Plain t.end ≡ kind_of f s at
+  plain_there h = rw h at (ap (kind_in f s) e)
 
-  pub no_letter : same_bytes (part_of s t) (112 ∷ []) ≡ false → same_bytes (part_of s t) (116 ∷ []) ≡ false → NoKind ≡ kind_in f s t
-  no_letter h g = rw (h, g)
+  pub no_kind_there : same_bytes (part_of s t) (112 ∷ []) ≡ false → same_bytes (part_of s t) (116 ∷ []) ≡ false → None ≡ kind_of f s at
+  no_kind_there h l = rw (h, l) at (ap (kind_in f s) e)
 
-  pub turn_told : {w : NumberRead} → same_bytes (part_of s t) (112 ∷ []) ≡ false → same_bytes (part_of s t) (116 ∷ []) ≡ true → w ≡ number_of f s t.end → turn_of w ≡ kind_in f s t
-  turn_told h g e = rw (h, g) (ap turn_of e)
+  -- with what the half-turn was read as
+  pub turn_there : {n : Option (Read Float)} → same_bytes (part_of s t) (112 ∷ []) ≡ false → same_bytes (part_of s t) (116 ∷ []) ≡ true → n ≡ number_of f s t.end → turn_of n ≡ kind_of f s at
+  turn_there h l g = ap turn_of g ∙ rw (h, l) at (ap (kind_in f s) e)

@@ -2,10 +2,10 @@
 pub mod Digits
 pub mod Letters
 pub mod Lists
-pub mod Marks
+pub mod Named
 pub mod Pages
 pub mod Runs
 pub mod Same
+pub mod Seen
 pub mod Sizes
-pub mod Tried
 pub mod Widths

@@ -1,33 +1,28 @@
--- A run, byte by byte: where it goes on, stops, or meets the end. Assumes nothing.
-use mathlib.Core.Path.{◌≡◌, ap, ◌∙◌}
+-- A run: how many bytes it has, and where it ends. Assumes nothing.
+use mathlib.Core.Path.{◌≡◌, refl, ap}
 use mathlib.Core.Bool.{Bool, true, false, cond}
 use mathlib.Core.List.{List, [], ◌∷◌}
-use Prim.Native.Nat.{ℕ, suc, ◌+◌, ◌≤◌, ◌<◌}
-use native.Mathlib.Numerals.{add-one}
+use Prim.Native.Nat.{ℕ, suc, ◌+◌, ◌≤◌}
 use native.Mathlib.Omega.{arith}
-use lib.ListN.{length, drop, get_or, drop_of_length-le, length-drop}
-use lib.Seq.{drop-cons}
+use lib.ListN.{length, take, drop, drop_of_length-le, length-drop}
+use Rattle.std.specs.Prelude.{take_while}
+use Rattle.std.specs.List.{prefix_len}
 use Rattle.script.specs.Text.{belongs_to, run_of, end_of}
 use Rattle.script.specs.declared.text.Class.{Class}
+
+-- a run, as the bytes at the front that pass the test
+pub run_is : (k : Class) (l : List ℕ) → length (take_while (belongs_to k) l) ≡ run_of k l
+unfolding run_of
+run_is k [] = refl
+run_is k (c ∷ l) = either (belongs_to k c) (prefix_len (belongs_to k) l) (run_is k l)
+  where
+    either : (t : Bool) (p : ℕ) {n : ℕ} → length (take p l) ≡ n → length (take (cond t (1 + p) 0) (c ∷ l)) ≡ cond t (suc n) 0
+    either true p h = let e : 1 + p ≡ suc p = omega arith in rw e (ap suc h)
+    either false p h = refl
 
 pub run_over : (k : Class) (s : List ℕ) (i : ℕ) → length s ≤ i → end_of k s i ≡ i
 unfolding run_of
 run_over k s i h = rw (drop_of_length-le s h) (omega arith)
-
-run_at : (k : Class) (s : List ℕ) (i : ℕ) → i < length s → run_of k (drop i s) ≡ cond (belongs_to k (get_or s i 0)) (suc (run_of k (drop (suc i) s))) 0
-unfolding run_of
-run_at k s i h = rw (drop-cons s i 0 h)
-
-pub run_stop : (k : Class) (s : List ℕ) (i : ℕ) → i < length s → belongs_to k (get_or s i 0) ≡ false → end_of k s i ≡ i
-run_stop k s i h e =
-    let f : run_of k (drop i s) ≡ 0 = run_at k s i h ∙ ap (λ (t : Bool). cond t (suc (run_of k (drop (suc i) s))) 0) e in
-    omega arith
-
-pub run_on : (k : Class) (s : List ℕ) (i : ℕ) → i < length s → belongs_to k (get_or s i 0) ≡ true → end_of k s (i + 1) ≡ end_of k s i
-run_on k s i h e =
-    let f : run_of k (drop i s) ≡ suc (run_of k (drop (suc i) s)) = run_at k s i h ∙ ap (λ (t : Bool). cond t (suc (run_of k (drop (suc i) s))) 0) e in
-    let g : run_of k (drop (i + 1) s) ≡ run_of k (drop (suc i) s) = ap (λ (n : ℕ). run_of k (drop n s)) (add-one i) in
-    omega arith
 
 run_short : (k : Class) (l : List ℕ) → run_of k l ≤ length l
 unfolding run_of

@@ -1,7 +1,8 @@
 -- A line as bytes: blanks, runs, tokens and the comment. Definitions only.
-use Rattle.std.specs.Prelude.{ℕ, suc, ◌+◌, ◌-◌, Bool, true, false, not, ◌&&◌, cond, List, [], ◌∷◌, eqb, leb, length, take, drop}
+use Rattle.std.specs.Prelude.{ℕ, suc, ◌+◌, ◌-◌, Bool, true, false, not, ◌&&◌, cond, List, [], ◌∷◌, eqb, leb, length, take, drop, Option, Some}
 use Rattle.script.specs.declared.text.Class.{Class}
 use Rattle.script.specs.declared.text.Class.TheVariants.{Blank, Mark, Code, Line}
+use Rattle.script.specs.declared.text.Read.{Read}
 use Rattle.script.specs.declared.text.Token.{Token}
 
 -- a blank: tab, carriage return, space
@@ -14,6 +15,10 @@ belongs_to Blank c = is_blank c
 belongs_to Mark c = not (is_blank c)
 belongs_to Code c = not (eqb c 35)
 belongs_to Line c = not (eqb c 10)
+
+-- what was read, and the place after it
+abbrev pub found : {A : Type 0} → A → ℕ → Option (Read A)
+found x next = Some (record { value = x; next = next })
 
 -- how many bytes at the front belong to the class
 unfoldable pub run_of : Class → List ℕ → ℕ

@@ -5,10 +5,5 @@ ghost use Rattle.std.specs.Prelude.{◌≡◌, ◌&&◌, cond, ◌*◌, leb};
 pub fn times(a: usize, b: usize) -> usize
     ensures { result ≡ cond (leb a 32 && leb b 32) (a * b) 0 }
 {
-    if a <= 32 {
-        if b <= 32 {
-            return a * b;
-        }
-    }
-    0
+    if a <= 32 && b <= 32 { a * b } else { 0 }
 }

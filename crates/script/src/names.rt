@@ -1,8 +1,8 @@
 // The call that a line names: its first token, compared with the names of the calls.
 ghost use Rattle.std.specs.Prelude.{◌≡◌};
-ghost use Rattle.script.specs.Names.{named, settings, steps, stepped, readings, others, name_of};
+ghost use Rattle.script.specs.Names.{named, settings, name_of};
 
-use crate::text::{part, same_bytes, token_at};
+use crate::text::{part, token_at};
 
 #[derive(Clone, Copy)]
 pub enum Name {
@@ -45,147 +45,54 @@ pub enum Name {
     Unknown,
 }
 
-// The same among the last nine. `@1` and `@2` name no call but a side of the pair, and `@w` the f32 filter: the call on it follows.
-fn other_of(token: &[u8]) -> Name
-    ensures { result ≡ named others token.now }
-{
-    if same_bytes(token, b"point") {
-        return Name::Point;
-    }
-    if same_bytes(token, b"wrap") {
-        return Name::Wrap;
-    }
-    if same_bytes(token, b"root") {
-        return Name::Root;
-    }
-    if same_bytes(token, b"dump") {
-        return Name::Dump;
-    }
-    if same_bytes(token, b"newpair") {
-        return Name::NewPair;
-    }
-    if same_bytes(token, b"load") {
-        return Name::Load;
-    }
-    if same_bytes(token, b"@1") {
-        return Name::First;
-    }
-    if same_bytes(token, b"@2") {
-        return Name::Second;
-    }
-    if same_bytes(token, b"@w") {
-        return Name::Narrow;
-    }
-    Name::Unknown
-}
-
-// The same among the readings and save, and what is asked after them.
-fn reading_of(token: &[u8]) -> Name
-    ensures { result ≡ named readings token.now }
-{
-    if same_bytes(token, b"readx") {
-        return Name::ReadX;
-    }
-    if same_bytes(token, b"readp") {
-        return Name::ReadP;
-    }
-    if same_bytes(token, b"readq") {
-        return Name::ReadQ;
-    }
-    if same_bytes(token, b"readpts") {
-        return Name::ReadPoints;
-    }
-    if same_bytes(token, b"readpar") {
-        return Name::ReadParams;
-    }
-    if same_bytes(token, b"readstale") {
-        return Name::ReadStale;
-    }
-    if same_bytes(token, b"save") {
-        return Name::Save;
-    }
-    other_of(token)
-}
-
-// The same among the stepped calls, and what is asked after them.
-fn stepped_of(token: &[u8]) -> Name
-    ensures { result ≡ named stepped token.now }
-{
-    if same_bytes(token, b"sopenp") {
-        return Name::OpenPredictionStepped;
-    }
-    if same_bytes(token, b"sopenc") {
-        return Name::OpenCorrectionStepped;
-    }
-    if same_bytes(token, b"ask") {
-        return Name::Ask;
-    }
-    if same_bytes(token, b"imagep") {
-        return Name::ImagePrediction;
-    }
-    if same_bytes(token, b"imagec") {
-        return Name::ImageCorrection;
-    }
-    if same_bytes(token, b"sclosep") {
-        return Name::ClosePredictionStepped;
-    }
-    if same_bytes(token, b"sclosec") {
-        return Name::CloseCorrectionStepped;
-    }
-    if same_bytes(token, b"sclosef") {
-        return Name::CloseCorrectionFlatStepped;
-    }
-    reading_of(token)
-}
-
-// The same among what opens and closes, and what is asked after that.
-fn step_of(token: &[u8]) -> Name
-    ensures { result ≡ named steps token.now }
-{
-    if same_bytes(token, b"openp") {
-        return Name::OpenPrediction;
-    }
-    if same_bytes(token, b"openc") {
-        return Name::OpenCorrection;
-    }
-    if same_bytes(token, b"closep") {
-        return Name::ClosePrediction;
-    }
-    if same_bytes(token, b"closec") {
-        return Name::CloseCorrection;
-    }
-    if same_bytes(token, b"closef") {
-        return Name::CloseCorrectionFlat;
-    }
-    if same_bytes(token, b"abandon") {
-        return Name::Abandon;
-    }
-    stepped_of(token)
-}
+// The names of the calls. `@1` and `@2` name no call but a side of the pair, and `@w` the f32 filter: the call on it follows.
+const NAMES: [(&[u8], Name); 36] = [
+    (b"new", Name::New),
+    (b"setx", Name::SetX),
+    (b"setp", Name::SetP),
+    (b"setq", Name::SetQ),
+    (b"setpar", Name::SetParams),
+    (b"setkind", Name::SetKind),
+    (b"openp", Name::OpenPrediction),
+    (b"openc", Name::OpenCorrection),
+    (b"closep", Name::ClosePrediction),
+    (b"closec", Name::CloseCorrection),
+    (b"closef", Name::CloseCorrectionFlat),
+    (b"abandon", Name::Abandon),
+    (b"sopenp", Name::OpenPredictionStepped),
+    (b"sopenc", Name::OpenCorrectionStepped),
+    (b"ask", Name::Ask),
+    (b"imagep", Name::ImagePrediction),
+    (b"imagec", Name::ImageCorrection),
+    (b"sclosep", Name::ClosePredictionStepped),
+    (b"sclosec", Name::CloseCorrectionStepped),
+    (b"sclosef", Name::CloseCorrectionFlatStepped),
+    (b"readx", Name::ReadX),
+    (b"readp", Name::ReadP),
+    (b"readq", Name::ReadQ),
+    (b"readpts", Name::ReadPoints),
+    (b"readpar", Name::ReadParams),
+    (b"readstale", Name::ReadStale),
+    (b"save", Name::Save),
+    (b"point", Name::Point),
+    (b"wrap", Name::Wrap),
+    (b"root", Name::Root),
+    (b"dump", Name::Dump),
+    (b"newpair", Name::NewPair),
+    (b"load", Name::Load),
+    (b"@1", Name::First),
+    (b"@2", Name::Second),
+    (b"@w", Name::Narrow),
+];
 
 // The call that a token names.
 pub fn name_of(token: &[u8]) -> Name
     ensures { result ≡ named settings token.now }
 {
-    if same_bytes(token, b"new") {
-        return Name::New;
+    match NAMES.iter().find(|(word, _)| token == *word) {
+        Some((_, name)) => *name,
+        None => Name::Unknown,
     }
-    if same_bytes(token, b"setx") {
-        return Name::SetX;
-    }
-    if same_bytes(token, b"setp") {
-        return Name::SetP;
-    }
-    if same_bytes(token, b"setq") {
-        return Name::SetQ;
-    }
-    if same_bytes(token, b"setpar") {
-        return Name::SetParams;
-    }
-    if same_bytes(token, b"setkind") {
-        return Name::SetKind;
-    }
-    step_of(token)
 }
 
 // The call that the first token at place at or after it names, and the place after that token.
@@ -199,6 +106,8 @@ pub fn call_at(s: &[u8], at: usize) -> Call
     ensures { result ≡ name_of s.now at }
 {
     let t = token_at(s, at);
-    let name = name_of(part(s, t));
-    Call { name, next: t.end }
+    Call {
+        name: name_of(part(s, t)),
+        next: t.end,
+    }
 }

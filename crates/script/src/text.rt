@@ -2,16 +2,11 @@
 ghost use Rattle.std.specs.Prelude.{◌≡◌, length, take, leb};
 ghost use Rattle.script.specs.Text.{is_blank, belongs_to, end_of, token_of, part_of, same_bytes};
 
+#[tactic(auto, unfolding(crate::specs::Text::is_blank))]
 pub fn is_blank(c: u8) -> bool
     ensures { result ≡ is_blank c }
 {
-    if c == 9 {
-        return true;
-    }
-    if c == 13 {
-        return true;
-    }
-    c == 32
+    matches!(c, b'\t' | b'\r' | b' ')
 }
 
 // What a run is made of: blanks, bytes that are no blank, bytes that start no comment, or bytes that end no line.
@@ -29,8 +24,8 @@ fn belongs(c: u8, class: Class) -> bool
     match class {
         Class::Blank => is_blank(c),
         Class::Mark => !is_blank(c),
-        Class::Code => c != 35,
-        Class::Line => c != 10,
+        Class::Code => c != b'#',
+        Class::Line => c != b'\n',
     }
 }
 
@@ -38,14 +33,8 @@ fn belongs(c: u8, class: Class) -> bool
 fn run_end(s: &[u8], at: usize, class: Class) -> usize
     ensures { result ≡ end_of class s.now at }
 {
-    let mut k = at;
-    while k < s.len() {
-        if !belongs(s[k], class) {
-            return k;
-        }
-        k += 1;
-    }
-    k
+    let run = s.iter().skip(at).take_while(|c| belongs(**c, class));
+    at + run.count()
 }
 
 // Where the line that starts at place at ends: at its newline, or at the end of s.
@@ -59,8 +48,7 @@ pub fn line_end(s: &[u8], at: usize) -> usize
 pub fn code(line: &[u8]) -> &[u8]
     ensures { result.now ≡ take (end_of Class.Code line.now 0) line.now }
 {
-    let end = run_end(line, 0, Class::Code);
-    &line[..end]
+    &line[..run_end(line, 0, Class::Code)]
 }
 
 // The bytes from start up to end; none where they are none.
@@ -68,6 +56,13 @@ pub fn code(line: &[u8]) -> &[u8]
 pub struct Token {
     pub start: usize,
     pub end: usize,
+}
+
+// What was read, and the place after it.
+#[derive(Clone, Copy)]
+pub struct Read<T> {
+    pub value: T,
+    pub next: usize,
 }
 
 // The next token at place at or after it.
@@ -90,29 +85,12 @@ pub fn no_token(s: &[u8], at: usize) -> bool
 pub fn part(s: &[u8], t: Token) -> &[u8]
     ensures { result.now ≡ part_of s.now t }
 {
-    let start = t.start;
-    let end = t.end;
-    if s.len() < end {
-        return &s[..0];
-    }
-    if end < start {
-        return &s[..0];
-    }
-    &s[start..end]
+    s.get(t.start..t.end).unwrap_or_default()
 }
 
+// Whether two lists of bytes are the same.
 pub fn same_bytes(a: &[u8], b: &[u8]) -> bool
     ensures { result ≡ same_bytes a.now b.now }
 {
-    if a.len() != b.len() {
-        return false;
-    }
-    let mut k = 0usize;
-    while k < a.len() {
-        if a[k] != b[k] {
-            return false;
-        }
-        k += 1;
-    }
-    true
+    a == b
 }

@@ -7,23 +7,13 @@ use std::os::unix::fs::{OpenOptionsExt, PermissionsExt};
 use std::random::RandomSource;
 use std::{fs, io};
 
-// How many bytes were read, and whether that went well.
-#[derive(Clone, Copy)]
-pub struct Got {
-    pub is_read: bool,
-    pub len: usize,
-}
-
-// What the file holds, as far as the bytes that are lent go.
-pub fn read(rt: &(impl Files + Eprint), path: &str, bytes: &mut [u8]) -> Got {
+// What the file holds, as far as the bytes that are lent go: how many were read, or none where that failed, which is told.
+pub fn read(rt: &(impl Files + Eprint), path: &str, bytes: &mut [u8]) -> Option<usize> {
     match read_once(rt, path, bytes) {
-        Ok(len) => Got { is_read: true, len },
+        Ok(len) => Some(len),
         Err(e) => {
             told::failed(rt, path, e);
-            Got {
-                is_read: false,
-                len: 0,
-            }
+            None
         }
     }
 }
@@ -140,15 +130,7 @@ fn replace_by(
 
 // Where the name of the folder that a file stands in ends: after the last slash; 0 where there is none.
 fn folder_end(path: &[u8]) -> usize {
-    let mut end = 0usize;
-    let mut k = 0usize;
-    while k < path.len() {
-        k += 1;
-        if path[k - 1] == b'/' {
-            end = k;
-        }
-    }
-    end
+    path.iter().rposition(|c| *c == b'/').map_or(0, |k| k + 1)
 }
 
 // The folder too has to reach its device: until then a loss of power may bring the old file back.

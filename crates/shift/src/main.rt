@@ -17,7 +17,7 @@ mod files;
 mod told;
 
 // The filter that the script leaves of this one.
-fn replayed(rt: &(impl Input + Print), from: Answer) -> io::Result<Filter> {
+fn replayed(rt: &(impl Input + Print), from: Answer<f64>) -> io::Result<Filter<f64>> {
     let start = held::alone(lines::start(), from);
     let held = start.held;
     let left = runs::run(rt, held)?;
@@ -25,7 +25,7 @@ fn replayed(rt: &(impl Input + Print), from: Answer) -> io::Result<Filter> {
 }
 
 // The record of what the shift leaves.
-fn save(rt: &(impl Files + RandomSource + Eprint), path: &str, filter: Filter) {
+fn save(rt: &(impl Files + RandomSource + Eprint), path: &str, filter: Filter<f64>) {
     let mut record = [0u8; 4096];
     let refusal = records::save(filter, &mut record);
     if refusal.number != 0 {
@@ -44,7 +44,7 @@ fn save(rt: &(impl Files + RandomSource + Eprint), path: &str, filter: Filter) {
 fn replay<R: Files + RandomSource + Input + Print + Eprint>(
     rt: &R,
     path: &str,
-    from: Answer,
+    from: Answer<f64>,
 ) -> io::Result<()> {
     match replayed(rt, from) {
         Ok(filter) => {
@@ -61,12 +61,11 @@ fn replay<R: Files + RandomSource + Input + Print + Eprint>(
 // A shift that goes on from a record.
 fn next<R: Files + RandomSource + Input + Print + Eprint>(rt: &R, path: &str) -> io::Result<()> {
     let mut record = [0u8; 4096];
-    let got = files::read(rt, path, &mut record);
-    if !got.is_read {
+    let Some(len) = files::read(rt, path, &mut record) else {
         told::not_replayed(rt);
         return Ok(());
-    }
-    let start = records::load(script::first(&record, got.len));
+    };
+    let start = records::load(script::first(&record, len));
     let refusal = start.refusal;
     if refusal.number != 0 {
         told::not_loaded(rt, path, refusal);
@@ -92,12 +91,7 @@ fn has_arg(rt: &impl Env, i: usize) -> bool {
 
 // How many arguments there are, the program's own name among them; 4 where there are more.
 fn arg_count(rt: &impl Env) -> usize {
-    for i in 0..4 {
-        if !has_arg(rt, i) {
-            return i;
-        }
-    }
-    4
+    (0..4).find(|i| !has_arg(rt, *i)).unwrap_or(4)
 }
 
 // The argument of that number at the front of bytes; how long it is, or 0 where it is missing or has no room.

@@ -54,13 +54,6 @@ fn tell_number(rt: &impl Eprint, n: u64) {
     let _ = rt.eprint(n);
 }
 
-fn above_zero(n: i32) -> u64 {
-    if n < 0 {
-        return 0;
-    }
-    n as u64
-}
-
 // The words for an error, without its number.
 fn tell_words(rt: &impl Eprint, error: io::Error) {
     let mut text = ArrayString::<256>::new();
@@ -74,7 +67,8 @@ fn tell_words(rt: &impl Eprint, error: io::Error) {
 // The number and the words of what has failed on a file; the number is 0 where it was not the system that failed.
 pub fn failed(rt: &impl Eprint, path: &str, error: io::Error) {
     tell(rt, "error ");
-    tell_number(rt, above_zero(error.raw_os_error().unwrap_or(0)));
+    let number = error.raw_os_error().unwrap_or(0);
+    tell_number(rt, u64::try_from(number).unwrap_or(0));
     tell(rt, ": ");
     of_file(rt, path, ": ");
     tell_words(rt, error);
@@ -125,7 +119,7 @@ fn tell_place(rt: &impl Eprint, place: usize) {
 pub fn not_loaded(rt: &impl Eprint, path: &str, refusal: Verdict) {
     of_file(rt, path, ": ");
     let number = refusal.number;
-    tell_number(rt, number as u64);
+    tell_number(rt, u64::from(number));
     tell_load(rt, number);
     tell_place(rt, refusal.place);
 }
@@ -134,7 +128,7 @@ pub fn not_loaded(rt: &impl Eprint, path: &str, refusal: Verdict) {
 pub fn not_saved(rt: &impl Eprint, path: &str, refusal: Verdict) {
     of_file(rt, path, ": ");
     let number = refusal.number;
-    tell_number(rt, number as u64);
+    tell_number(rt, u64::from(number));
     tell_save(rt, number);
     tell_place(rt, refusal.place);
     kept(rt, path);

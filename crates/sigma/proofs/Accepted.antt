@@ -5,9 +5,10 @@ use mathlib.Core.Bool.{Bool, true, false}
 use mathlib.Core.List.{List}
 use lib.ListN.{length, take, get_or}
 use lib.Ieee.{Float, nan, Format}
-use Rattle.floats.specs.Refusal.{RANGE, Outcome, refused, accepted, unless, onward}
+use Rattle.floats.specs.declared.Refusal.TheVariants.{Range as RANGE}
+use Rattle.floats.specs.Refusal.{Outcome, refused, accepted, unless, onward}
 use Rattle.floats.specs.Numbers.{plus_zero, all_finite}
-use Rattle.angles.specs.declared.Kind.{Kind}
+use Rattle.angles.specs.Kinds.{Kind}
 use Rattle.matrix.specs.Results.{Work, listed, worked, Plan, finish, after, run}
 use Rattle.floats.proofs.Refusals.{refused_never}
 use Rattle.matrix.proofs.Cells.{Placed, Filled, plus_placed}

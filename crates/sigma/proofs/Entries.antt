@@ -1,25 +1,22 @@
 -- What stands in each place of the weights, the points, the mean, the deviations and the spread. Assumes nothing.
-use Prim.Native.Nat.{ℕ, zero, suc, ◌+◌, ◌-◌, ◌^◌, ◌<◌, ◌≤◌}
-use mathlib.Core.Path.{◌≡◌, refl, sym, ap, ◌∙◌, subst}
-use mathlib.Core.Bool.{Bool, true, false, ◌&&◌, cond}
+use Prim.Native.Nat.{ℕ, zero, suc, ◌+◌, ◌-◌, ◌<◌, ◌≤◌}
+use mathlib.Core.Path.{◌≡◌, refl, sym, ap, ◌∙◌}
+use mathlib.Core.Bool.{Bool, true, false, ◌&&◌, cond, true≢false, false≢true}
 use mathlib.Core.List.{List, [], ◌∷◌}
 use borrow.Author.Tests.{ne_eqb, le-leb, lt-leb}
 use native.Mathlib.Nat.{add-mul}
 use native.Mathlib.Omega.{arith}
-use lib.Dec.{T, eqb}
-use lib.IntN.{pos}
+use lib.Dec.{eqb}
 use lib.ListN.{length, get_or}
-use lib.Ieee.{Float, nan, Format, binary32, binary64, add, sub, in_float}
+use lib.Ieee.{Float, nan, Format, add, sub}
 use Rattle.floats.specs.Numbers.{plus_zero, zeros, all_finite, above_zero}
 use Rattle.matrix.specs.Folds.{rows_of}
-use Rattle.angles.specs.declared.Kind.{Kind}
+use Rattle.angles.specs.Kinds.{Kind}
 use Rattle.matrix.proofs.Cells.{Placed, placed, Filled, filled, matrix_filled}
-use Rattle.sigma.specs.Weights.{w0c_of, wi_of, weight_at, weights_of}
+use Rattle.sigma.specs.Weights.{Params, Weighting, w0c_of, wi_of, weight_at, weights_of}
 use Rattle.sigma.specs.Draw.{step_at, point_at, points_of}
 use Rattle.sigma.specs.Mean.{mean_at, mean_of}
 use Rattle.sigma.specs.Spread.{deviation_at, deviations_of, spread_at, spread_of}
-use Rattle.sigma.specs.declared.Params.{Params}
-use Rattle.sigma.specs.declared.weights.Weighting.{Weighting}
 use Rattle.sigma.proofs.Flat.{point_in}
 
 -- ---- weights
@@ -28,21 +25,23 @@ use Rattle.sigma.proofs.Flat.{point_in}
 pub other : (a b : Float) (k : ℕ) → 0 < k → b ≡ cond (eqb k 0) a b
 other a b k h = sym (ap (λ (t : Bool). cond t a b) (ne_eqb k 0 (λ (e : k ≡ 0). omega arith)))
 
--- up to 8 states are exact in either format
-pub states_exact : (f : Format) (n : ℕ) → n ≤ 8 → T (in_float f (pos n))
-unfolding in_float
-states_exact binary32 n h = subst T (sym (le-leb n (2 ^ 24) (omega arith))) tt
-states_exact binary64 n h = subst T (sym (le-leb n (2 ^ 53) (omega arith))) tt
-
--- what 6 asks, of what was computed: once N has passed, the others decide; before that, nothing does
+-- what 6 asks, of what was computed
 abbrev pub passes : Weighting → Bool
 passes v = above_zero v.scale && all_finite (v.w0m ∷ v.w0c ∷ v.wi ∷ [])
 
-pub others_decide : (v : Weighting) {b : Bool} → b ≡ above_zero v.scale → b ≡ true → all_finite (v.w0m ∷ v.w0c ∷ v.wi ∷ []) ≡ passes v
-others_decide v e t = ap (λ (a : Bool). a && all_finite (v.w0m ∷ v.w0c ∷ v.wi ∷ [])) (sym t ∙ e)
+-- the four tests by one after the other: the first three are passed and the fourth decides, or one of them has failed
+pub fourth_decides : (a b c d : Bool) {v r : Bool} → v ≡ ((a && b) && c) → v ≡ true → r ≡ d → r ≡ (a && (b && (c && (d && true))))
+fourth_decides false b c d e h q = absurd (false≢true (sym e ∙ h))
+fourth_decides true false c d e h q = absurd (false≢true (sym e ∙ h))
+fourth_decides true true false d e h q = absurd (false≢true (sym e ∙ h))
+fourth_decides true true true true e h q = q
+fourth_decides true true true false e h q = q
 
-pub n_decides : (v : Weighting) {b : Bool} → b ≡ above_zero v.scale → b ≡ false → false ≡ passes v
-n_decides v e t = ap (λ (a : Bool). a && all_finite (v.w0m ∷ v.w0c ∷ v.wi ∷ [])) (sym t ∙ e)
+pub three_decide : (a b c d : Bool) {v : Bool} → v ≡ ((a && b) && c) → v ≡ false → v ≡ (a && (b && (c && (d && true))))
+three_decide false b c d e h = h
+three_decide true false c d e h = h
+three_decide true true false d e h = h
+three_decide true true true d e h = absurd (true≢false (sym e ∙ h))
 
 module _ (f : Format) (n : ℕ) (p : Params) (h : n ≤ 8) where
   pub weights_placed : Placed (weight_at f n p) (n + n + 1) 17 (weights_of f n p)

@@ -6,3 +6,5 @@ pub mod Plans
 -- a difference that isn't finite ends in 9; what is accepted is finite
 pub mod NotFinite
 pub mod Accepted
+-- code over `Number` in the terms of its floats
+pub mod Generic

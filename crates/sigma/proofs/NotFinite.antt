@@ -10,10 +10,10 @@ use lib.Dec.{eqb}
 use lib.ListN.{length, take, get_or}
 use lib.Ieee.{Float, nan, inf, fin, Format, neg, add, sub, mul}
 use lib.Ieee.Scale.{finite}
-use Rattle.floats.specs.Refusal.{RANGE, refused, accepted}
+use Rattle.floats.specs.declared.Refusal.TheVariants.{Range as RANGE}
+use Rattle.floats.specs.Refusal.{refused, accepted}
 use Rattle.floats.specs.Numbers.{plus_zero, all_finite}
-use Rattle.angles.specs.Kinds.{plain}
-use Rattle.angles.specs.declared.Kind.{Kind}
+use Rattle.angles.specs.Kinds.{Kind, plain}
 use Rattle.angles.proofs.Exact.{through_not_finite}
 use Rattle.matrix.specs.Folds.{total_of}
 use Rattle.matrix.specs.Results.{Work, listed, worked, Plan, after, run}

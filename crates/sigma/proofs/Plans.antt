@@ -1,11 +1,12 @@
 -- Code that follows a plan: how far it has come, and a listed result that it has made and tested. Assumes nothing.
 use Prim.Native.Nat.{ℕ}
 use mathlib.Core.Path.{◌≡◌}
-use mathlib.Core.Bool.{Bool, true, false, not}
+use mathlib.Core.Bool.{Bool, true, false}
 use mathlib.Core.List.{List}
 use lib.ListN.{take}
 use lib.Ieee.{Float}
-use Rattle.floats.specs.Refusal.{RANGE, Outcome, refused}
+use Rattle.floats.specs.declared.Refusal.TheVariants.{Range as RANGE}
+use Rattle.floats.specs.Refusal.{Outcome, refused}
 use Rattle.floats.specs.Numbers.{all_finite}
 use Rattle.matrix.specs.Results.{listed, Plan, after}
 use Rattle.matrix.proofs.Results.{Comes, goes, stops}
@@ -30,8 +31,8 @@ module _ {A : Type 0} {o : Outcome A} where
   tested {v} {κ} m at {u} e {b} t = record { m = m; v = v; κ = κ; comes = at; u = u; same = e; told = t }
 
   -- the code leaves where not b
-  abbrev pub passes : {b : Bool} → Tested o b → not b ≡ false → Reached o
+  abbrev pub passes : {b : Bool} → Tested o b → b ≡ true → Reached o
   passes s h = record { plan = s.κ s.u; comes = goes s.m s.comes s.same s.told h }
 
-  pub fails : {b : Bool} → Tested o b → not b ≡ true → o ≡ refused RANGE
+  pub fails : {b : Bool} → Tested o b → b ≡ false → o ≡ refused RANGE
   fails s h = stops s.m s.comes s.same s.told h

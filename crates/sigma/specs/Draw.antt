@@ -2,14 +2,13 @@
 use Rattle.std.specs.Prelude.{ℕ, zero, suc, ◌+◌, ◌-◌, ◌*◌, cond, List, leb, get_or, Float}
 use Rattle.std.specs.Float.{nan, Format}
 use Rattle.std.specs.Float.Ieee.{add, sub, mul}
-use Rattle.floats.specs.declared.Verdict.{Verdict}
-use Rattle.floats.specs.Refusal.{PIVOT, Outcome, refusal, or}
+use Rattle.floats.specs.declared.Refusal.TheVariants.{Pivot as PIVOT}
+use Rattle.floats.specs.Refusal.{Outcome}
 use Rattle.floats.specs.Numbers.{zeros}
 use Rattle.root.specs.Definition.{root_of}
 use Rattle.matrix.specs.Folds.{rows_of}
 use Rattle.matrix.specs.Results.{Work, made, check, rooting, listed, Plan, finish, after, run}
 use Rattle.matrix.specs.Factor.{factor_of}
-use Rattle.sigma.specs.declared.Drawn.{Drawn}
 
 module _ (f : Format) (n : ℕ) (x l : List Float) (s : Float) where
   -- s·L[i][j]; the upper entries of L are +0
@@ -42,11 +41,3 @@ draw_plan f n x p scale =
 
 abbrev pub draw_of : Format → ℕ → List Float → List Float → Float → Outcome (List Float)
 draw_of f n x p scale = run (draw_plan f n x p scale)
-
--- refused: +0 throughout
-abbrev pub undrawn : Verdict → Drawn
-undrawn r = record { refusal = r; points = zeros 136 }
-
--- the answer: the number and its place beside the points, +0 where refused
-abbrev pub drawn : Outcome (List Float) → Drawn
-drawn o = record { refusal = refusal o; points = or (zeros 136) o }

@@ -3,8 +3,7 @@ use Rattle.std.specs.Prelude.{ℕ, ◌+◌, ◌*◌, List, get_or, Float}
 use Rattle.std.specs.Float.{nan, Format}
 use Rattle.std.specs.Float.Ieee.{add, sub, mul}
 use Rattle.floats.specs.Numbers.{plus_zero, zeros}
-use Rattle.angles.specs.Kinds.{through_of, plain}
-use Rattle.angles.specs.declared.Kind.{Kind}
+use Rattle.angles.specs.Kinds.{Kind, through_of, plain}
 use Rattle.matrix.specs.Folds.{total_of, rows_of}
 
 -- dx is point minus mean through the kinds; d numbers a point

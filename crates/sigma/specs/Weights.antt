@@ -4,8 +4,15 @@ use Rattle.std.specs.Float.{Format}
 use Rattle.std.specs.Float.Ieee.{add, sub, mul, div, of_int}
 use Rattle.floats.specs.Numbers.{zeros, all_finite, above_zero}
 use Rattle.matrix.specs.Folds.{places_of}
-use Rattle.sigma.specs.declared.Params.{Params}
-use Rattle.sigma.specs.declared.weights.Weighting.{Weighting}
+use Rattle.sigma.specs.declared.Params as code
+use Rattle.sigma.specs.declared.weights.Weighting as made
+
+-- the parameters, and what is made of them, in floats
+abbrev pub Params : Type 0
+Params = code.Params Float
+
+abbrev pub Weighting : Type 0
+Weighting = made.Weighting Float
 
 -- a small whole number as a float
 abbrev pub whole : Format → ℕ → Float

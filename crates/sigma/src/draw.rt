@@ -1,76 +1,56 @@
 // The draw of 2n+1 points from x and P.
-ghost use Rattle.std.specs.Prelude.{◌≡◌, ◌+◌, ◌<◌, ◌≤◌};
-ghost use Rattle.std.specs.Float.{binary64};
-ghost use Rattle.sigma.specs.Draw.{point_at, points_of, draw_of, drawn, undrawn};
+ghost use Rattle.std.specs.Prelude.{◌≡◌, ◌+◌, ◌<◌, ◌≤◌, Result, List};
+ghost use Rattle.floats.specs.declared.Refusal.{Refusal};
+ghost use Rattle.sigma.specs.Draw.{point_at, points_of, draw_of};
 
-use crate::Drawn;
-use floats::Verdict;
+use crate::place;
+use floats::{Number, Refusal};
 use matrix::pivots::Pivots;
 use matrix::{factor, layout};
-use root::Root;
+use root::Rooted;
 
 // Number i of point k: point 0 is x, then come n points x[i] + s·L[i][j], and n points x[i] − s·L[i][j].
-fn point_at(n: usize, x: &[f64; 8], l: &[f64; 64], s: f64, k: usize, i: usize) -> f64
+fn point_at<T: Number>(n: usize, x: &[T; 8], l: &[T; 64], s: T, k: usize, i: usize) -> T
     requires { (n ≤ 8) × (i < n) × (k ≤ n + n) }
-    ensures { result ≡ point_at binary64 n x.now l.now s k i }
+    ensures { T.float result ≡ point_at T.format n (T.floats x.now) (T.floats l.now) (T.float s) k i }
 {
     if k == 0 {
-        return x[i];
+        x[i]
+    } else if k <= n {
+        x[i] + s * l[layout::cell(i, n, k - 1)]
+    } else {
+        x[i] - s * l[layout::cell(i, n, k - 1 - n)]
     }
-    if k <= n {
-        let at = layout::cell(i, n, k - 1);
-        return x[i] + s * l[at];
-    }
-    let at = layout::cell(i, n, k - 1 - n);
-    x[i] - s * l[at]
 }
 
-fn points(n: usize, x: &[f64; 8], l: &[f64; 64], s: f64) -> [f64; 136]
+fn points<T: Number>(n: usize, x: &[T; 8], l: &[T; 64], s: T) -> [T; 136]
     requires { n ≤ 8 }
-    ensures { result ≡ points_of binary64 n x.now l.now s }
+    ensures { T.floats result ≡ points_of T.format n (T.floats x.now) (T.floats l.now) (T.float s) }
 {
-    let mut out = [0.0f64; 136];
-    let mut k = 0usize;
-    while k <= n + n {
-        let mut i = 0usize;
-        while i < n {
-            let at = crate::place(k, n, i);
-            out[at] = point_at(n, x, l, s, k, i);
-            i += 1;
+    let mut out = [T::ZERO; 136];
+    for k in 0..n + n + 1 {
+        for i in 0..n {
+            out[place(k, n, i)] = point_at(n, x, l, s, k, i);
         }
-        k += 1;
     }
     out
 }
 
-// A refused draw.
-fn refuse(number: u8, place: usize) -> Drawn
-    ensures { result ≡ undrawn (record { number = number; place = place }) }
-{
-    Drawn {
-        refusal: Verdict { number, place },
-        points: [0.0f64; 136],
-    }
-}
-
 // The factor of P (7, 9), the root of N (56), and all points (9): the first refusal decides.
-pub fn generate_sigma_points(n: usize, x: &[f64; 8], p: &[f64; 64], scale: f64) -> Drawn
+pub fn generate_sigma_points<T: Rooted>(
+    n: usize,
+    x: &[T; 8],
+    p: &[T; 64],
+    scale: T,
+) -> Result<[T; 136], Refusal>
     requires { n ≤ 8 }
-    ensures { result ≡ drawn (draw_of binary64 n x.now p.now scale) }
+    ensures { T.seen (λ A. Result (List A) Refusal) result ≡ draw_of T.format n (T.floats x.now) (T.floats p.now) (T.float scale) }
 {
-    let f = factor::cholesky_decompose_lower(p, n, Pivots::OfP);
-    if f.refusal.number != 0 {
-        return refuse(f.refusal.number, f.refusal.place);
-    }
-    let Root::Value(s) = root::square_root(scale) else {
-        return refuse(56, 0);
-    };
-    let q = points(n, x, &f.l, s);
+    let l = factor::cholesky_decompose_lower(p, n, Pivots::OfP)?;
+    let s = root::square_root(scale)?;
+    let q = points(n, x, &l, s);
     if !floats::all_finite(&q, (n + n + 1) * n) {
-        return refuse(9, 0);
+        return Err(Refusal::Range);
     }
-    Drawn {
-        refusal: floats::placeless(0),
-        points: q,
-    }
+    Ok(q)
 }

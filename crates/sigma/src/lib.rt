@@ -3,8 +3,6 @@
 
 ghost use Rattle.std.specs.Prelude.{◌≡◌, ◌+◌, ◌*◌, ◌<◌, ◌≤◌};
 
-use floats::Verdict;
-
 pub mod draw;
 pub mod mean;
 pub mod predict;
@@ -13,25 +11,17 @@ pub mod weights;
 
 // The three parameters.
 #[derive(Clone, Copy)]
-pub struct Params {
-    pub alpha: f64,
-    pub beta: f64,
-    pub kappa: f64,
+pub struct Params<T> {
+    pub alpha: T,
+    pub beta: T,
+    pub kappa: T,
 }
 
-// What a draw answers: the number with its place, and the points, +0 where it is refused.
+// What a close makes: x and P.
 #[derive(Clone, Copy)]
-pub struct Drawn {
-    pub refusal: Verdict,
-    pub points: [f64; 136],
-}
-
-// What a close answers: the number with its place, and x and P, +0 where it is refused.
-#[derive(Clone, Copy)]
-pub struct Moments {
-    pub refusal: Verdict,
-    pub x: [f64; 8],
-    pub p: [f64; 64],
+pub struct Moments<T> {
+    pub x: [T; 8],
+    pub p: [T; 64],
 }
 
 // Where number i of point k stands, the points having d numbers each.

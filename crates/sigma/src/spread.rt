@@ -1,83 +1,74 @@
 // Deviations from a mean, and the weighted sums of their products over the points 0 to t: P, S and the cross covariance.
-ghost use Rattle.std.specs.Prelude.{◌≡◌, ◌<◌, ◌≤◌};
-ghost use Rattle.std.specs.Float.{binary64};
+ghost use Rattle.std.specs.Prelude.{◌≡◌, ◌<◌, ◌≤◌, List};
+ghost use Rattle.angles.specs.declared.Kind.{Kind};
 ghost use Rattle.sigma.specs.Spread.{deviations_of, spread_at, spread_of};
 
+use crate::place;
 use angles::Kind;
+use floats::Number;
 use matrix::layout;
 
 // Every point minus the mean, through the kinds.
-pub fn deviations(
-    p: &[f64; 136],
+pub fn deviations<T: Number>(
+    p: &[T; 136],
     d: usize,
     t: usize,
-    mean: &[f64; 8],
-    kinds: [Kind; 8],
-) -> [f64; 136]
+    mean: &[T; 8],
+    kinds: &[Kind<T>; 8],
+) -> [T; 136]
     requires { (t < 17) × (d ≤ 8) }
-    ensures { result ≡ deviations_of binary64 p.now d t mean.now kinds }
+    ensures { T.floats result ≡ deviations_of T.format (T.floats p.now) d t (T.floats mean.now) (T.seen (λ A. List (Kind A)) kinds.now) }
 {
-    let mut out = [0.0f64; 136];
-    let mut k = 0usize;
-    while k <= t {
-        let mut i = 0usize;
-        while i < d {
-            let at = crate::place(k, d, i);
-            out[at] = angles::through_kind(kinds[i], p[at] - mean[i]);
-            i += 1;
+    let mut out = [T::ZERO; 136];
+    for k in 0..t + 1 {
+        for i in 0..d {
+            let at = place(k, d, i);
+            out[at] = kinds[i].through(p[at] - mean[i]);
         }
-        k += 1;
     }
     out
 }
 
 // From +0, for each point, weight times a's number i times b's number j.
-fn sum_at(
-    a: &[f64; 136],
+fn sum_at<T: Number>(
+    a: &[T; 136],
     da: usize,
     i: usize,
-    b: &[f64; 136],
+    b: &[T; 136],
     db: usize,
     j: usize,
-    w: &[f64; 17],
+    w: &[T; 17],
     t: usize,
-) -> f64
+) -> T
     requires { (t < 17) × ((da ≤ 8) × (i < da)) × ((db ≤ 8) × (j < db)) }
-    ensures { result ≡ spread_at binary64 a.now da b.now db w.now t i j }
+    ensures { T.float result ≡ spread_at T.format (T.floats a.now) da (T.floats b.now) db (T.floats w.now) t i j }
 {
-    let mut s = 0.0;
-    let mut k = 0usize;
-    while k <= t {
-        let x = crate::place(k, da, i);
-        let y = crate::place(k, db, j);
+    let mut s = T::ZERO;
+    for k in 0..t + 1 {
+        let x = place(k, da, i);
+        let y = place(k, db, j);
         s = s + w[k] * a[x] * b[y];
-        k += 1;
     }
     s
 }
 
 // One such sum for each i and j, nothing mirrored: da rows of db.
-pub fn spread(
-    a: &[f64; 136],
+pub fn spread<T: Number>(
+    a: &[T; 136],
     da: usize,
-    b: &[f64; 136],
+    b: &[T; 136],
     db: usize,
-    w: &[f64; 17],
+    w: &[T; 17],
     t: usize,
-) -> [f64; 64]
+) -> [T; 64]
     requires { (t < 17) × ((da ≤ 8) × (db ≤ 8)) }
-    ensures { result ≡ spread_of binary64 a.now da b.now db w.now t }
+    ensures { T.floats result ≡ spread_of T.format (T.floats a.now) da (T.floats b.now) db (T.floats w.now) t }
 {
-    let mut out = [0.0f64; 64];
-    let mut i = 0usize;
-    while i < da {
-        let mut j = 0usize;
-        while j < db {
-            let at = layout::cell(i, db, j);
-            out[at] = sum_at(a, da, i, b, db, j, w, t);
-            j += 1;
+    let mut out = [T::ZERO; 64];
+    for i in 0..da {
+        for j in 0..db {
+            out[layout::cell(i, db, j)] = sum_at(a, da, i, b, db, j, w, t);
         }
-        i += 1;
     }
     out
 }

@@ -1,24 +1,26 @@
 // The weights of n states by the three parameters. Each operation is rounded once, in document 01's order.
 ghost use Rattle.std.specs.Prelude.{◌≡◌, ◌≤◌};
-ghost use Rattle.std.specs.Float.{binary64};
+ghost use Rattle.sigma.specs.declared.Params.{Params};
+ghost use Rattle.sigma.specs.declared.weights.Weighting.{Weighting};
 ghost use Rattle.sigma.specs.Weights.{scale_of, w0m_of, weights_of, weights_pass, computed};
 
 use crate::Params;
+use floats::Number;
 
 // N, the weight of point 0 in means and in spreads, and the weight of every other point.
 #[derive(Clone, Copy)]
-pub struct Weighting {
-    pub scale: f64,
-    pub w0m: f64,
-    pub w0c: f64,
-    pub wi: f64,
+pub struct Weighting<T> {
+    pub scale: T,
+    pub w0m: T,
+    pub w0c: T,
+    pub wi: T,
 }
 
-pub fn compute_weights(n: usize, p: Params) -> Weighting
+pub fn compute_weights<T: Number>(n: usize, p: Params<T>) -> Weighting<T>
     requires { n ≤ 8 }
-    ensures { result ≡ computed binary64 n p }
+    ensures { T.seen Weighting result ≡ computed T.format n (T.seen Params p) }
 {
-    let states = n as f64;
+    let states = T::whole(n);
     let square = p.alpha * p.alpha;
     let lambda = square * (states + p.kappa) - states;
     let scale = states + lambda;
@@ -26,54 +28,54 @@ pub fn compute_weights(n: usize, p: Params) -> Weighting
     Weighting {
         scale,
         w0m,
-        w0c: w0m + (1.0 - square + p.beta),
-        wi: 1.0 / (2.0 * scale),
+        w0c: w0m + (T::ONE - square + p.beta),
+        wi: T::ONE / (T::whole(2) * scale),
     }
 }
 
 // N, whose root scales the factor in a draw.
-pub fn scale(n: usize, p: Params) -> f64
+pub fn scale<T: Number>(n: usize, p: Params<T>) -> T
     requires { n ≤ 8 }
-    ensures { result ≡ scale_of binary64 n p }
+    ensures { T.float result ≡ scale_of T.format n (T.seen Params p) }
 {
-    let c = compute_weights(n, p);
-    c.scale
+    compute_weights(n, p).scale
 }
 
 // w0m, the weight of point 0 in means.
-pub fn center_weight(n: usize, p: Params) -> f64
+pub fn center_weight<T: Number>(n: usize, p: Params<T>) -> T
     requires { n ≤ 8 }
-    ensures { result ≡ w0m_of binary64 n p }
+    ensures { T.float result ≡ w0m_of T.format n (T.seen Params p) }
 {
-    let c = compute_weights(n, p);
-    c.w0m
+    compute_weights(n, p).w0m
 }
 
 // The weights kept with the points: w0c, then wi for each of the other 2n points, +0 past them.
-pub fn weights(n: usize, p: Params) -> [f64; 17]
+pub fn weights<T: Number>(n: usize, p: Params<T>) -> [T; 17]
     requires { n ≤ 8 }
-    ensures { result ≡ weights_of binary64 n p }
+    ensures { T.floats result ≡ weights_of T.format n (T.seen Params p) }
 {
     let c = compute_weights(n, p);
-    let mut w = [0.0f64; 17];
+    let mut w = [T::ZERO; 17];
     w[0] = c.w0c;
-    let mut k = 1usize;
-    while k <= n + n {
+    for k in 1..n + n + 1 {
         w[k] = c.wi;
-        k += 1;
     }
     w
 }
 
 // What 6 asks: N finite and above 0, and w0m, w0c and wi finite.
-pub fn weights_pass(n: usize, p: Params) -> bool
+pub fn weights_pass<T: Number>(n: usize, p: Params<T>) -> bool
     requires { n ≤ 8 }
-    ensures { result ≡ weights_pass binary64 n p }
+    ensures { result ≡ weights_pass T.format n (T.seen Params p) }
 {
-    let c = compute_weights(n, p);
-    if floats::is_above_zero(c.scale) {
-        let v = [c.w0m, c.w0c, c.wi];
-        return floats::all_finite(&v, 3);
-    }
-    false
+    let Weighting {
+        scale,
+        w0m,
+        w0c,
+        wi,
+    } = compute_weights(n, p);
+    floats::is_above_zero(scale)
+        && floats::is_finite(w0m)
+        && floats::is_finite(w0c)
+        && floats::is_finite(wi)
 }

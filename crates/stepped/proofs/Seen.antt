@@ -11,8 +11,8 @@ use lib.Ieee.{Float, Format}
 use Rattle.matrix.specs.Results.{finish}
 use Rattle.filter.specs.declared.Stage.{Stage}
 use Rattle.filter.specs.declared.Stage.TheVariants.{Shut, Predicting, Correcting, PredictingStepped, CorrectingStepped}
-use Rattle.filter.specs.declared.Kept.{Kept}
-use Rattle.filter.specs.declared.Filter.{Filter}
+use Rattle.filter.specs.Types.{Kept}
+use Rattle.filter.specs.Types.{Filter}
 use Rattle.filter.specs.Asked.{Asks, in_range, within, every, in_order, guarded, first_refusal}
 use Rattle.filter.specs.Filters.{is_shut, is_predicting_stepped, is_correcting_stepped, is_stepped, nothing_kept, seen, keeps}
 use Rattle.filter.specs.Calls.{ask, image_prediction, image_correction, close_prediction_stepped, close_correction_stepped, close_correction_flat_stepped, Call, writing, setting, stepping, closing, closing_stepped, abandon, reading, fits, asks, sized, done, asked_for, handed_in, plan}

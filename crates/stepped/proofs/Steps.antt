@@ -15,8 +15,8 @@ use Rattle.floats.specs.Refusal.{taken, earlier, refusal, nothing}
 use Rattle.floats.specs.Search.{input, searched}
 use Rattle.floats.specs.Fronts.{front, over}
 use Rattle.floats.proofs.Fronts.{front_over}
-use Rattle.filter.specs.declared.Filter.{Filter}
-use Rattle.filter.specs.declared.Answer.{Answer}
+use Rattle.filter.specs.Types.{Filter}
+use Rattle.filter.specs.Types.{Answer}
 use Rattle.filter.specs.Asked.{in_range, within, every, in_order, first_refusal}
 use Rattle.filter.specs.Filters.{is_stepped, is_predicting_stepped, is_correcting_stepped, filter, with_kept}
 use Rattle.filter.specs.Calls.{Call, stepping, ask, image_prediction, image_correction, sized, named, due, fits, asking, asked_for, handed_in, asks}

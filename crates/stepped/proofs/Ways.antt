@@ -9,7 +9,9 @@ use lib.Dec.{eqb}
 use lib.ListN.{length}
 use lib.Ieee.{Float, Format}
 use Rattle.floats.specs.declared.Verdict.{Verdict}
-use Rattle.floats.specs.Refusal.{Refusal, STAGE, SIZE, verdict, Outcome, refused, accepted, refusal, nothing, onward}
+use Rattle.floats.specs.declared.Refusal.{Refusal}
+use Rattle.floats.specs.declared.Refusal.TheVariants.{Stage as STAGE, Size as SIZE}
+use Rattle.floats.specs.Refusal.{verdict, Outcome, refused, accepted, refusal, nothing, onward}
 use Rattle.floats.proofs.Refusals.{number_of, number_above}
 use Rattle.matrix.specs.Results.{Plan, finish, run, mapped}
 use Rattle.matrix.proofs.Mapped.{run_mapped}
@@ -19,8 +21,8 @@ use Rattle.sigma.specs.Weights.{scale_of, weights_of}
 use Rattle.correction.specs.Correct.{apply_plan}
 use Rattle.filter.specs.declared.Stage.{Stage}
 use Rattle.filter.specs.declared.Stage.TheVariants.{Predicting, Correcting, PredictingStepped, CorrectingStepped}
-use Rattle.filter.specs.declared.Filter.{Filter}
-use Rattle.filter.specs.declared.Answer.{Answer}
+use Rattle.filter.specs.Types.{Filter}
+use Rattle.filter.specs.Types.{Answer}
 use Rattle.filter.specs.Asked.{Asks, Size, in_range, within, every, in_order, guarded}
 use Rattle.filter.specs.Filters.{is_shut, is_stepped, seen, opened_prediction, opened_correction, opened_prediction_stepped, opened_correction_stepped}
 use Rattle.filter.specs.Calls.{setting, open_prediction, open_correction, open_prediction_stepped, open_correction_stepped, SteppedClose, close_prediction_stepped, close_correction_stepped, close_correction_flat_stepped, close_prediction, close_correction, close_correction_flat, with_list, closing, closing_stepped, lend, line, Needs, asking, besides, named, named_by, due, own_stepped, fits, close_needs, asks, Done, opened, opened_stepped, closed, draws, draws_current, weighted_from, flat_from, close_plan, plan}

@@ -2,8 +2,8 @@
 use Rattle.std.specs.Prelude.{ℕ, cond, eqb}
 use Rattle.filter.specs.declared.Stage.{Stage}
 use Rattle.filter.specs.declared.Stage.TheVariants.{Predicting, Correcting, PredictingStepped, CorrectingStepped}
-use Rattle.filter.specs.declared.Filter.{Filter}
-use Rattle.filter.specs.declared.Answer.{Answer}
+use Rattle.filter.specs.Types.{Filter}
+use Rattle.filter.specs.Types.{Answer}
 use Rattle.filter.specs.Filters.{track, filter}
 use Rattle.filter.specs.Calls.{SteppedClose, close_prediction_stepped, close_correction_stepped, close_correction_flat_stepped}
 

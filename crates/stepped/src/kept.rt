@@ -16,7 +16,7 @@ pub fn copy(s: &[f64], a: usize, k: usize, d: &mut [f64], b: usize)
 }
 
 // An image of d numbers is in, with the m that it names, and the next point is to be asked for.
-pub fn take_in(f: Filter, m: usize, d: usize, image: &[f64]) -> Answer
+pub fn take_in(f: Filter<f64>, m: usize, d: usize, image: &[f64]) -> Answer<f64>
     requires { (d ≤ 8) × (f.track.kept.at ≤ 16) × (d ≤ length image.now) }
     ensures { result ≡ record { filter = filter f.sheet (with_kept f.track (handed_in f.track.kept m d image.now)); refusal = taken } }
 {

@@ -17,7 +17,7 @@ mod whole;
 
 // ---- open
 
-pub fn open_prediction(f: Filter) -> Answer
+pub fn open_prediction(f: Filter<f64>) -> Answer<f64>
     ensures { result ≡ answered (step binary64 f (setting open_prediction_stepped)) }
 {
     let mut list = [0.0; 136];
@@ -25,7 +25,7 @@ pub fn open_prediction(f: Filter) -> Answer
     whole::opened_at(a, Stage::PredictingStepped)
 }
 
-pub fn open_correction(f: Filter) -> Answer
+pub fn open_correction(f: Filter<f64>) -> Answer<f64>
     ensures { result ≡ answered (step binary64 f (setting open_correction_stepped)) }
 {
     let mut list = [0.0; 136];
@@ -36,7 +36,7 @@ pub fn open_correction(f: Filter) -> Answer
 // ---- the steps
 
 // The point that is due. Asked for again it is the same, until its image is in.
-pub fn ask(f: Filter, out: &mut [f64]) -> Answer
+pub fn ask(f: Filter<f64>, out: &mut [f64]) -> Answer<f64>
     ensures value { result ≡ answered (step binary64 f (stepping (ask out.old))) }
     ensures out_after { out.new ≡ over (step binary64 f (stepping (ask out.old))).reply.given out.old }
 {
@@ -60,7 +60,7 @@ pub fn ask(f: Filter, out: &mut [f64]) -> Answer
     }
 }
 
-pub fn image_prediction(f: Filter, image: &[f64]) -> Answer
+pub fn image_prediction(f: Filter<f64>, image: &[f64]) -> Answer<f64>
     ensures { result ≡ answered (step binary64 f (stepping (image_prediction image.now))) }
 {
     let n = f.sheet.n;
@@ -74,7 +74,7 @@ pub fn image_prediction(f: Filter, image: &[f64]) -> Answer
     kept::take_in(f, 0, n, image)
 }
 
-pub fn image_correction(f: Filter, m: usize, image: &[f64]) -> Answer
+pub fn image_correction(f: Filter<f64>, m: usize, image: &[f64]) -> Answer<f64>
     ensures { result ≡ answered (step binary64 f (stepping (image_correction m image.now))) }
 {
     let n = f.sheet.n;
@@ -91,7 +91,7 @@ pub fn image_correction(f: Filter, m: usize, image: &[f64]) -> Answer
 
 // ---- close
 
-pub fn close_prediction(f: Filter) -> Answer
+pub fn close_prediction(f: Filter<f64>) -> Answer<f64>
     ensures { result ≡ answered (step binary64 f (closing_stepped close_prediction_stepped)) }
 {
     let own = tests::is_predicting_stepped(f.track.stage);
@@ -104,7 +104,13 @@ pub fn close_prediction(f: Filter) -> Answer
     whole::unless_refused(f, a)
 }
 
-pub fn close_correction(f: Filter, m: usize, z: &[f64], r: &[f64], kinds: [Kind; 4]) -> Answer
+pub fn close_correction(
+    f: Filter<f64>,
+    m: usize,
+    z: &[f64],
+    r: &[f64],
+    kinds: [Kind<f64>; 4],
+) -> Answer<f64>
     ensures { result ≡ answered (step binary64 f (closing_stepped (close_correction_stepped m z.now r.now kinds))) }
 {
     let own = tests::is_correcting_stepped(f.track.stage);
@@ -118,7 +124,7 @@ pub fn close_correction(f: Filter, m: usize, z: &[f64], r: &[f64], kinds: [Kind;
     whole::unless_refused(f, a)
 }
 
-pub fn close_correction_flat(f: Filter, m: usize, z: &[f64], r: &[f64]) -> Answer
+pub fn close_correction_flat(f: Filter<f64>, m: usize, z: &[f64], r: &[f64]) -> Answer<f64>
     ensures { result ≡ answered (step binary64 f (closing_stepped (close_correction_flat_stepped m z.now r.now))) }
 {
     let own = tests::is_correcting_stepped(f.track.stage);

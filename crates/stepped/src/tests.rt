@@ -34,7 +34,7 @@ pub fn has_point(n: usize, k: usize) -> bool
 }
 
 // Whether a point is due and has been asked for.
-pub fn is_ready(n: usize, kept: Kept) -> bool
+pub fn is_ready(n: usize, kept: Kept<f64>) -> bool
     ensures { result ≡ (leb kept.at (n + n) && kept.asked) }
 {
     has_point(n, kept.at) && kept.asked

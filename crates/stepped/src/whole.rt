@@ -10,7 +10,7 @@ use filter::{Answer, Filter, Stage, Track, checks};
 use floats::Verdict;
 
 // At another stage, and else as it is.
-pub fn at_stage(f: Filter, stage: Stage) -> Filter
+pub fn at_stage(f: Filter<f64>, stage: Stage) -> Filter<f64>
     ensures { result ≡ at_stage f stage }
 {
     let track = Track { stage, ..f.track };
@@ -18,7 +18,7 @@ pub fn at_stage(f: Filter, stage: Stage) -> Filter
 }
 
 // What a stepped open answers, by what the whole-list open has answered.
-pub fn opened_at(a: Answer, stage: Stage) -> Answer
+pub fn opened_at(a: Answer<f64>, stage: Stage) -> Answer<f64>
     ensures { result ≡ opened_at stage a }
 {
     if a.refusal.number != 0 {
@@ -29,7 +29,7 @@ pub fn opened_at(a: Answer, stage: Stage) -> Answer
 }
 
 // What a stepped close answers, by what the whole-list close has answered: refused, it has changed nothing.
-pub fn unless_refused(f: Filter, a: Answer) -> Answer
+pub fn unless_refused(f: Filter<f64>, a: Answer<f64>) -> Answer<f64>
     ensures { result ≡ unless_refused f a }
 {
     if a.refusal.number != 0 {
@@ -39,7 +39,7 @@ pub fn unless_refused(f: Filter, a: Answer) -> Answer
 }
 
 // That its own call is open with every image in (3), and that its m is the first image's (1).
-pub fn unready(f: Filter, own: bool, named: bool) -> Verdict
+pub fn unready(f: Filter<f64>, own: bool, named: bool) -> Verdict
     ensures { result ≡ refusal (in_order (own && not (due f)) named true true false false nothing true true nothing) }
 {
     let fits = own && !tests::has_point(f.sheet.n, f.track.kept.at);

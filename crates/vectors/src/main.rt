@@ -6,24 +6,22 @@
 ghost use Rattle.std.specs.Prelude.{◌≡◌, ◌≤◌, length, IfOk};
 ghost use Rattle.vectors.specs.Lines.{line_of};
 
-use angles::{Kind, Residual};
-use floats::Verdict;
+use angles::Kind;
+use floats::{Refusal, Verdict};
 use matrix::pivots::Pivots;
 use matrix::{factor, inverse, product, sums};
-use root::Root;
 use sigma::{Moments, Params, draw, predict, weights};
 use std::io;
 use std::io::Read;
-use words::Word;
 
 // The word on a line.
-fn word_of(line: &[u8; 17]) -> Word
+fn word_of(line: &[u8; 17]) -> Option<u64>
     ensures { result ≡ line_of line.now }
 {
-    if line[16] != 10 {
-        return Word::Bad;
+    if line[16] != b'\n' {
+        return None;
     }
-    words::word_at(line, 0)
+    words::word_at::<f64>(line, 0)
 }
 
 // Reads until bytes is full or the input ends; how many bytes were put at its front.
@@ -42,26 +40,32 @@ fn read_full(input: &mut impl Read, bytes: &mut [u8]) -> io::Result<usize>
 }
 
 // The word that the next 17 bytes of the input are.
-fn next_word(input: &mut impl Read) -> io::Result<Word> {
+fn next_word(input: &mut impl Read) -> io::Result<Option<u64>> {
     let mut line = [0u8; 17];
     if read_full(input, &mut line)? != 17 {
-        return Ok(Word::Bad);
+        return Ok(None);
     }
     Ok(word_of(&line))
 }
 
+// The next word of the input, as a float.
+fn next_number(input: &mut impl Read) -> io::Result<Option<f64>> {
+    let Some(b) = next_word(input)? else {
+        return Ok(None);
+    };
+    Ok(Some(words::float_of(b)))
+}
+
 // The next k words of the input, as floats at the front of out, which has room for them; whether they are all words.
 fn fill(input: &mut impl Read, out: &mut [f64], k: usize) -> io::Result<bool> {
-    let mut i = 0usize;
-    while i < k {
-        if i >= out.len() {
-            return Ok(false);
-        }
-        let Word::Bits(b) = next_word(input)? else {
+    if out.len() < k {
+        return Ok(false);
+    }
+    for x in &mut out[..k] {
+        let Some(number) = next_number(input)? else {
             return Ok(false);
         };
-        out[i] = words::float_of(b);
-        i += 1;
+        *x = number;
     }
     Ok(true)
 }
@@ -70,7 +74,7 @@ fn fill(input: &mut impl Read, out: &mut [f64], k: usize) -> io::Result<bool> {
 fn next_count(input: &mut impl Read, most: u64) -> io::Result<u64>
     ensures { IfOk result (λ n. n ≤ most) }
 {
-    let Word::Bits(b) = next_word(input)? else {
+    let Some(b) = next_word(input)? else {
         return Ok(0);
     };
     if b > most {
@@ -101,9 +105,13 @@ fn put_byte(rt: &impl Print, c: u8) -> io::Result<()> {
     rt.write_all(&text)
 }
 
-// A refusal, or 0, with its place.
-fn put_verdict(rt: &impl Print, v: Verdict) -> io::Result<()> {
-    print!(rt; "{} {}", v.number, v.place)
+// The number and the place of a refusal, or 0 where there is none.
+fn put_verdict(rt: &impl Print, refused: Option<Refusal>) -> io::Result<()> {
+    let Verdict { number, place } = match refused {
+        Some(refusal) => refusal.verdict(),
+        None => floats::placeless(0),
+    };
+    print!(rt; "{number} {place}")
 }
 
 // A space and the word of x.
@@ -113,20 +121,15 @@ fn put_number(rt: &impl Print, x: f64) -> io::Result<()> {
 
 // The first k numbers of s, as far as it has them.
 fn put_numbers(rt: &impl Print, s: &[f64], k: usize) -> io::Result<()> {
-    let mut i = 0usize;
-    while i < k {
-        if i >= s.len() {
-            return Ok(());
-        }
-        put_number(rt, s[i])?;
-        i += 1;
+    for x in &s[..k.min(s.len())] {
+        put_number(rt, *x)?;
     }
     Ok(())
 }
 
 // The end of a record's answer: the run goes on.
 fn end_line(rt: &impl Print) -> io::Result<bool> {
-    put_byte(rt, 10)?;
+    put_byte(rt, b'\n')?;
     Ok(true)
 }
 
@@ -138,31 +141,30 @@ fn say_bad(rt: &impl Print) -> io::Result<bool> {
 
 // 1: the root of a number.
 fn answer_root(rt: &impl Print, input: &mut impl Read) -> io::Result<bool> {
-    let mut a = [0.0f64; 1];
-    if !fill(input, &mut a, 1)? {
+    let Some(a) = next_number(input)? else {
         return say_bad(rt);
-    }
-    let r = root::square_root(a[0]);
-    match r {
-        Root::Value(v) => {
-            put_verdict(rt, floats::placeless(0))?;
+    };
+    match root::square_root(a) {
+        Ok(v) => {
+            put_verdict(rt, None)?;
             put_number(rt, v)?;
         }
-        Root::Refused => put_verdict(rt, floats::placeless(56))?,
+        Err(refusal) => put_verdict(rt, Some(refusal))?,
     }
     end_line(rt)
 }
 
 // 2: the wrap of d by h.
 fn answer_wrap(rt: &impl Print, input: &mut impl Read) -> io::Result<bool> {
-    let mut a = [0.0f64; 2];
-    if !fill(input, &mut a, 2)? {
+    let Some(d) = next_number(input)? else {
         return say_bad(rt);
-    }
-    let w = angles::wrap(a[0], a[1]);
-    let refusal = w.refusal;
-    put_verdict(rt, refusal)?;
-    put_number(rt, w.value)?;
+    };
+    let Some(h) = next_number(input)? else {
+        return say_bad(rt);
+    };
+    let w = angles::wrap(d, h);
+    put_verdict(rt, w.err())?;
+    put_number(rt, w.unwrap_or(0.0))?;
     end_line(rt)
 }
 
@@ -178,11 +180,12 @@ fn answer_factor(rt: &impl Print, input: &mut impl Read) -> io::Result<bool> {
     if !fill(input, &mut a, cells(n, n))? {
         return say_bad(rt);
     }
-    let f = factor::cholesky_decompose_lower(&a, n, of);
-    let refusal = f.refusal;
-    put_verdict(rt, refusal)?;
-    if refusal.number == 0 {
-        put_numbers(rt, &f.l, cells(n, n))?;
+    match factor::cholesky_decompose_lower(&a, n, of) {
+        Ok(l) => {
+            put_verdict(rt, None)?;
+            put_numbers(rt, &l, cells(n, n))?;
+        }
+        Err(refusal) => put_verdict(rt, Some(refusal))?,
     }
     end_line(rt)
 }
@@ -228,82 +231,51 @@ fn answer_sum(rt: &impl Print, input: &mut impl Read, minus: bool) -> io::Result
     if !fill(input, &mut b, k)? {
         return say_bad(rt);
     }
-    if minus {
-        let c = sums::minus(k, &a, &b);
-        put_numbers(rt, &c, k)?;
+    let c = if minus {
+        sums::minus(k, &a, &b)
     } else {
-        let c = sums::plus(k, &a, &b);
-        put_numbers(rt, &c, k)?;
-    }
+        sums::plus(k, &a, &b)
+    };
+    put_numbers(rt, &c, k)?;
     end_line(rt)
 }
 
-// Three parameters, and whether there were three numbers.
-#[derive(Clone, Copy)]
-struct ParamsGiven {
-    ok: bool,
-    params: Params,
-}
-
-fn next_params(input: &mut impl Read) -> io::Result<ParamsGiven> {
+// Three parameters; none where they are not three numbers.
+fn next_params(input: &mut impl Read) -> io::Result<Option<Params<f64>>> {
     let mut a = [0.0f64; 3];
-    let ok = fill(input, &mut a, 3)?;
-    Ok(ParamsGiven {
-        ok,
-        params: Params {
-            alpha: a[0],
-            beta: a[1],
-            kappa: a[2],
-        },
-    })
-}
-
-// Kinds, and whether they were all there: for each a count, 0 plain or 1 a turn, and a half-turn.
-#[derive(Clone, Copy)]
-struct KindsGiven {
-    ok: bool,
-    kinds: [Kind; 8],
-}
-
-fn next_kinds(input: &mut impl Read, k: usize) -> io::Result<KindsGiven> {
-    let plain = Kind {
-        residual: Residual::Plain,
-    };
-    let mut kinds = [plain; 8];
-    let mut ok = true;
-    let mut i = 0usize;
-    while i < k {
-        if i >= 8 {
-            return Ok(KindsGiven { ok: false, kinds });
-        }
-        let turn = next_count(input, 1)?;
-        let mut h = [0.0f64; 1];
-        if !fill(input, &mut h, 1)? {
-            ok = false;
-        }
-        if turn == 1 {
-            kinds[i] = Kind {
-                residual: Residual::Turn(h[0]),
-            };
-        }
-        i += 1;
+    if !fill(input, &mut a, 3)? {
+        return Ok(None);
     }
-    Ok(KindsGiven { ok, kinds })
+    let [alpha, beta, kappa] = a;
+    Ok(Some(Params { alpha, beta, kappa }))
+}
+
+// k kinds and then plain ones; none where they are not all there. Each is a count, 0 plain or 1 a turn, and a half-turn.
+fn next_kinds(input: &mut impl Read, k: usize) -> io::Result<Option<[Kind<f64>; 8]>> {
+    let mut kinds = [Kind::Plain; 8];
+    if kinds.len() < k {
+        return Ok(None);
+    }
+    for kind in &mut kinds[..k] {
+        let turn = next_count(input, 1)?;
+        let Some(half_turn) = next_number(input)? else {
+            return Ok(None);
+        };
+        if turn == 1 {
+            *kind = Kind::Turn(half_turn);
+        }
+    }
+    Ok(Some(kinds))
 }
 
 // 8: whether the weights of n states pass 6, then N, w0m, w0c and wi.
 fn answer_weights(rt: &impl Print, input: &mut impl Read) -> io::Result<bool> {
     let n = next_count(input, 8)? as usize;
-    let g = next_params(input)?;
-    if !g.ok {
+    let Some(params) = next_params(input)? else {
         return say_bad(rt);
-    }
-    let params = g.params;
-    if weights::weights_pass(n, params) {
-        put_byte(rt, 49)?;
-    } else {
-        put_byte(rt, 48)?;
-    }
+    };
+    let passes = weights::weights_pass(n, params);
+    put_byte(rt, if passes { b'1' } else { b'0' })?;
     let w = weights::compute_weights(n, params);
     put_number(rt, w.scale)?;
     put_number(rt, w.w0m)?;
@@ -315,37 +287,37 @@ fn answer_weights(rt: &impl Print, input: &mut impl Read) -> io::Result<bool> {
 // 9: the points drawn from x and P.
 fn answer_draw(rt: &impl Print, input: &mut impl Read) -> io::Result<bool> {
     let n = next_count(input, 8)? as usize;
-    let g = next_params(input)?;
+    let Some(params) = next_params(input)? else {
+        return say_bad(rt);
+    };
     let mut x = [0.0f64; 8];
     let mut p = [0.0f64; 64];
-    if !g.ok {
-        return say_bad(rt);
-    }
     if !fill(input, &mut x, n)? {
         return say_bad(rt);
     }
     if !fill(input, &mut p, cells(n, n))? {
         return say_bad(rt);
     }
-    let d = draw::generate_sigma_points(n, &x, &p, weights::scale(n, g.params));
-    let refusal = d.refusal;
-    put_verdict(rt, refusal)?;
-    if refusal.number == 0 {
-        put_numbers(rt, &d.points, points(n, n))?;
+    match draw::generate_sigma_points(n, &x, &p, weights::scale(n, params)) {
+        Ok(drawn) => {
+            put_verdict(rt, None)?;
+            put_numbers(rt, &drawn, points(n, n))?;
+        }
+        Err(refusal) => put_verdict(rt, Some(refusal))?,
     }
     end_line(rt)
 }
 
 // What a close gives.
-fn put_moments(rt: &impl Print, n: usize, q: Moments) -> io::Result<()> {
-    let refusal = q.refusal;
-    put_verdict(rt, refusal)?;
-    if refusal.number != 0 {
-        return Ok(());
-    }
-    put_numbers(rt, &q.x, n)?;
+fn put_moments(rt: &impl Print, n: usize, made: Result<Moments<f64>, Refusal>) -> io::Result<()> {
+    let Moments { x, p } = match made {
+        Ok(moments) => moments,
+        Err(refusal) => return put_verdict(rt, Some(refusal)),
+    };
+    put_verdict(rt, None)?;
+    put_numbers(rt, &x, n)?;
     if n <= 8 {
-        put_numbers(rt, &q.p, cells(n, n))?;
+        put_numbers(rt, &p, cells(n, n))?;
     }
     Ok(())
 }
@@ -353,31 +325,27 @@ fn put_moments(rt: &impl Print, n: usize, q: Moments) -> io::Result<()> {
 // 10: x and P from propagated points, the weights those of the parameters.
 fn answer_prediction(rt: &impl Print, input: &mut impl Read) -> io::Result<bool> {
     let n = next_count(input, 8)? as usize;
-    let g = next_params(input)?;
-    let k = next_kinds(input, n)?;
+    let Some(params) = next_params(input)? else {
+        return say_bad(rt);
+    };
+    let Some(kinds) = next_kinds(input, n)? else {
+        return say_bad(rt);
+    };
     let mut q = [0.0f64; 64];
     let mut s = [0.0f64; 136];
-    if !g.ok {
-        return say_bad(rt);
-    }
-    if !k.ok {
-        return say_bad(rt);
-    }
     if !fill(input, &mut q, cells(n, n))? {
         return say_bad(rt);
     }
     if !fill(input, &mut s, points(n, n))? {
         return say_bad(rt);
     }
-    let params = g.params;
-    let kinds = k.kinds;
     let w = weights::weights(n, params);
     let r = predict::reconstruct_prediction(
         n,
         &s,
         weights::center_weight(n, params),
         &w,
-        kinds,
+        &kinds,
         &q,
     );
     put_moments(rt, n, r)?;
@@ -388,24 +356,21 @@ fn answer_prediction(rt: &impl Print, input: &mut impl Read) -> io::Result<bool>
 fn answer_correction(rt: &impl Print, input: &mut impl Read) -> io::Result<bool> {
     let n = next_count(input, 8)? as usize;
     let m = next_count(input, 4)? as usize;
-    let g = next_params(input)?;
-    let k = next_kinds(input, n)?;
-    let l = next_kinds(input, m)?;
+    let Some(params) = next_params(input)? else {
+        return say_bad(rt);
+    };
+    let Some(kinds) = next_kinds(input, n)? else {
+        return say_bad(rt);
+    };
+    let Some(measured) = next_kinds(input, m)? else {
+        return say_bad(rt);
+    };
     let mut x = [0.0f64; 8];
     let mut p = [0.0f64; 64];
     let mut z = [0.0f64; 8];
     let mut r = [0.0f64; 64];
     let mut s = [0.0f64; 136];
     let mut o = [0.0f64; 136];
-    if !g.ok {
-        return say_bad(rt);
-    }
-    if !k.ok {
-        return say_bad(rt);
-    }
-    if !l.ok {
-        return say_bad(rt);
-    }
     if !fill(input, &mut x, n)? {
         return say_bad(rt);
     }
@@ -424,14 +389,11 @@ fn answer_correction(rt: &impl Print, input: &mut impl Read) -> io::Result<bool>
     if !fill(input, &mut o, points(n, m))? {
         return say_bad(rt);
     }
-    let params = g.params;
     let w = weights::weights(n, params);
-    let kinds = k.kinds;
-    let measured = l.kinds;
     let four = [measured[0], measured[1], measured[2], measured[3]];
     let w0m = weights::center_weight(n, params);
     let q = correction::correct_with_weights_residuals(
-        n, m, &x, &p, &s, &o, w0m, &w, &z, &r, kinds, four,
+        n, m, &x, &p, &s, &o, w0m, &w, &z, &r, &kinds, four,
     );
     put_moments(rt, n, q)?;
     end_line(rt)
@@ -465,7 +427,7 @@ fn answer_next(rt: &impl Print, input: &mut impl Read) -> io::Result<bool> {
     if got != 17 {
         return say_bad(rt);
     }
-    let Word::Bits(tag) = word_of(&line) else {
+    let Some(tag) = word_of(&line) else {
         return say_bad(rt);
     };
     answer(rt, input, tag)

@@ -1,87 +1,57 @@
-// Floats as the programs read and write them: 16 hex digits, the bits of an f64. Any NaN pattern stands for NaN, and a NaN is written 7ff8000000000000.
+// Floats as the programs read and write them: the bits in hex digits, 16 of an f64 and 8 of an f32. Any NaN pattern stands for NaN, and a NaN is written by one: 7ff8000000000000 or 7fc00000.
 #![tactic(auto)]
 
-ghost use Rattle.std.specs.Prelude.{◌≡◌};
-ghost use Rattle.std.specs.Float.{binary64};
+ghost use Rattle.std.specs.Prelude.{◌≡◌, ◌^◌, ◌<◌};
 ghost use Rattle.std.specs.Float.Ieee.{of_bits, to_bits};
-ghost use Rattle.words.specs.Words.{between, digit_of, word_of};
+ghost use Rattle.words.specs.Words.{digit_in, width, word_of};
+
+mod worded;
+
+pub use worded::Worded;
 
 // The number with these bits. A NaN is made by a division: the bits of one are not turned into a number as they are.
-pub fn float_of(b: u64) -> f64
-    ensures { result ≡ of_bits binary64 b }
+pub fn float_of<T: Worded>(b: u64) -> T
+    ensures { T.float result ≡ of_bits T.format b }
 {
-    if 0x7ff0_0000_0000_0000 < b % 0x8000_0000_0000_0000 {
-        return 0.0 / 0.0;
+    if T::INFINITY_BITS < b % T::SIGN_BIT {
+        return T::ZERO / T::ZERO;
     }
-    f64::from_bits(b)
+    T::from_word(b)
 }
 
-// The bits of a number.
-pub fn bits_of(x: f64) -> u64
-    ensures { result ≡ to_bits binary64 x }
+// The bits of a number: no more than the digits of a word hold.
+pub fn bits_of<T: Worded>(x: T) -> u64
+    ensures value { result ≡ to_bits T.format (T.float x) }
+    ensures short { result < 16 ^ width T.format }
 {
     if x != x {
-        return 0x7ff8_0000_0000_0000;
+        return T::NAN_BITS;
     }
-    f64::to_bits(x)
+    x.held();
+    x.to_word()
 }
 
-// Whether c lies between a and b, or is one of them.
-fn is_between(a: u64, b: u64, c: u64) -> bool
-    ensures { result ≡ between a b c }
+// The value of a hex digit of either case.
+#[tactic(auto, unfolding(crate::specs::Words::digit_of))]
+pub fn digit(c: u8) -> Option<u64>
+    ensures { result ≡ digit_in c }
 {
-    if a <= c {
-        return c <= b;
+    match c {
+        b'0'..=b'9' => Some(u64::from(c - b'0')),
+        b'a'..=b'f' => Some(u64::from(c - b'a') + 10),
+        b'A'..=b'F' => Some(u64::from(c - b'A') + 10),
+        _ => None,
     }
-    false
 }
 
-// The value of a hex digit of either case, or 16.
-pub fn digit(c: u8) -> u64
-    ensures { result ≡ digit_of c }
+// The word that starts at place at of s: as many digits as the format takes.
+pub fn word_at<T: Worded>(s: &[u8], at: usize) -> Option<u64>
+    ensures { result ≡ word_of T.format s.now at }
 {
-    let v = c as u64;
-    if is_between(48, 57, v) {
-        return v - 48;
-    }
-    if is_between(97, 102, v) {
-        return v - 87;
-    }
-    if is_between(65, 70, v) {
-        return v - 55;
-    }
-    16
-}
-
-// What stands where a word should: its bits, or no word.
-#[derive(Clone, Copy)]
-pub enum Word {
-    Bits(u64),
-    Bad,
-}
-
-// How many digits a word has.
-const DIGITS: usize = 16;
-
-// The word that starts at place at of s.
-pub fn word_at(s: &[u8], at: usize) -> Word
-    ensures { result ≡ word_of binary64 s.now at }
-{
-    if s.len() < DIGITS {
-        return Word::Bad;
-    }
-    if s.len() - DIGITS < at {
-        return Word::Bad;
-    }
+    let digits = s.get(at..)?.get(..T::DIGITS)?;
     let mut v = 0u64;
-    let mut k = 0usize;
-    while k < DIGITS {
-        let d = digit(s[at + k]);
-        if 16 <= d {
-            return Word::Bad;
-        }
-        v = v * 16 + d;
-        k += 1;
+    for c in digits {
+        v = v * 16 + digit(*c)?;
     }
-    Word::Bits(v)
+    Some(v)
 }

@@ -3,10 +3,10 @@ use Rattle.std.proofs.Common.{[], ◌∷◌, sym, ap, ap₂, ◌∙◌}
 use Rattle.std.specs.Float.{binary64}
 use Rattle.floats.specs.declared.Verdict.{Verdict}
 use Rattle.floats.proofs.Refusals.{number_of}
-use Rattle.filter.specs.declared.Sheet.{Sheet}
-use Rattle.filter.specs.declared.Track.{Track}
-use Rattle.filter.specs.declared.new.NewSheet.{NewSheet}
-use Rattle.filter.specs.declared.new.NewTrack.{NewTrack}
+use Rattle.filter.specs.Types.{Sheet}
+use Rattle.filter.specs.Types.{Track}
+use Rattle.filter.specs.Types.{NewSheet}
+use Rattle.filter.specs.Types.{NewTrack}
 use Rattle.filter.specs.New.{from, sheet_from, track_from}
 use Rattle.filter.proofs.Order.{Gives}
 use Rattle.filter.proofs.Parts.{none_sooner, new_stopped, new_made, sheet_told, start_told, made_track, made_sheet}

@@ -7,4 +7,4 @@ pub returns-in-Plain : goal.returns-in-Plain
 returns-in-Plain c = c.put_word.ensures ∙ plain_written c.args.out.now c.args.at c.in-Plain.is
 
 pub returns-in-Turn : goal.returns-in-Turn
-returns-in-Turn c = c.put_word-in-Turn.ensures ∙ turn_written c.args.out.now c.args.at c.in-Turn.is c.bits_of.ensures
+returns-in-Turn c = c.put_word-in-Turn.ensures ∙ turn_written c.args.out.now c.args.at c.in-Turn.is c.bits_of.ensures.value

@@ -3,7 +3,7 @@ use Rattle.std.proofs.Common.{◌+◌, ◌*◌, ◌<◌, ap, ◌∙◌, arith}
 use Rattle.std.proofs.Math.Seq.{sets}
 use Rattle.std.proofs.lemmas.List.{get_or-take, length-take-le}
 use Rattle.angles.specs.Kinds.{plain}
-use Rattle.angles.specs.declared.Kind.{Kind}
+use Rattle.angles.specs.Kinds.{Kind}
 use Rattle.pieces.specs.Bytes.{kind_bytes}
 use Rattle.pieces.proofs.Turns.{writing_more, writing_end}
 use Rattle.pieces.proofs.Back.{length_kind}

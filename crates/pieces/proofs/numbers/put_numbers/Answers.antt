@@ -16,7 +16,7 @@ loop-i-preserved c =
     let h : i < a.k = omega (arith, length-take-le a.k a.l.now c.requires.0) in
     let v = get_or-take a.k a.l.now i nan h in
     writing_more c.loop-i.invariant nan h (omega arith) (length_number _)
-    (c.put_word.ensures ∙ ap (λ (b : ℕ). sets c.loop-i.out (a.at + 8 * i) (little_endian 8 b)) (c.bits_of.ensures ∙ ap (to_bits binary64) v)
+    (c.put_word.ensures ∙ ap (λ (b : ℕ). sets c.loop-i.out (a.at + 8 * i) (little_endian 8 b)) (c.bits_of.ensures.value ∙ ap (to_bits binary64) v)
     ∙ ap (sets c.loop-i.out (a.at + 8 * i)) (sym (number_written _)))
 
 pub returns : goal.returns

@@ -4,7 +4,7 @@ use Rattle.std.specs.Float.{binary64}
 use Rattle.floats.specs.declared.Verdict.{Verdict}
 use Rattle.floats.specs.Refusal.{Outcome}
 use Rattle.floats.proofs.Refusals.{number_of}
-use Rattle.filter.specs.declared.Filter.{Filter}
+use Rattle.filter.specs.Types.{Filter}
 use Rattle.filter.specs.New.{refused_answer}
 use Rattle.filter.specs.Load.{filter_in, load_asks}
 use Rattle.records.specs.Parts.{judged, contents_of}

@@ -1,9 +1,0 @@
--- `floats::next_bad` meets its contract. Assumes nothing.
-use mathlib.Core.Path.{sym, ◌∙◌}
-use borrow.Author.Rules.{rules}
-use Rattle.floats.proofs.Refusals.{earlier_first, earlier_second}
-use Rattle.floats.proofs.next_bad.Statement.{statement}
-use Rattle.floats.proofs.next_bad.Tie as tie
-
-pub next_bad_spec : {M : Type 1} → statement M
-next_bad_spec = tie.close (tie.spec (λ c. sym (earlier_first _ _ c.if-found-ne0.true)) (λ c κs. search rules) (λ c. c.first_bad.ensures ∙ sym (earlier_second _ _ c.before.if-found-ne0.false)))

@@ -1,0 +1,10 @@
+-- After i turns out holds a − b at its first i places.
+use Rattle.floats.specs.Numbers.{zeros}
+use Rattle.matrix.specs.Sums.{minus_at}
+use Rattle.matrix.proofs.Turns.{Places}
+use Rattle.matrix.proofs.sums.minus.Given as goal
+
+abbrev pub invariant-loop-i : goal.invariant-loop-i
+invariant-loop-i g l =
+    let n = g.T.Number in
+    Places (minus_at n.format (n.floats l.a) (n.floats l.b)) (zeros 64) l.i (n.floats l.out)

@@ -1,5 +1,0 @@
--- The rounds that are left fall.
-use Rattle.paces.proofs.run.Given as goal
-
-abbrev pub decreases-loop-left : goal.decreases-loop-left
-decreases-loop-left l = l.left

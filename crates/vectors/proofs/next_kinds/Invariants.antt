@@ -1,6 +1,0 @@
--- Each turn of the loop is one nearer to k.
-use Rattle.std.proofs.Common.{◌-◌}
-use Rattle.vectors.proofs.next_kinds.Given as goal
-
-abbrev pub decreases-loop-i : goal.decreases-loop-i
-decreases-loop-i g l = l.k - l.i
