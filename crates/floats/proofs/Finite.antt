@@ -72,6 +72,13 @@ pub passed_none : {s : List Float} → Passed s 0
 unfolding all_finite
 passed_none = record { is = refl }
 
+-- what is past its end is nothing
+take_past : (k : ℕ) (s : List Float) → length s ≤ k → take k s ≡ s
+take_past zero [] h = refl
+take_past zero (x ∷ s) h = absurd (omega arith)
+take_past (suc k) [] h = refl
+take_past (suc k) (x ∷ s) h = ap (λ (l : List Float). x ∷ l) (take_past k s (omega arith))
+
 -- what a list is up to the lesser of its length and k
 take_least : (s : List Float) (i k : ℕ) → i ≤ min (length s) k → min (length s) k ≤ i → take i s ≡ take k s
 take_least [] zero zero h g = refl
@@ -100,6 +107,10 @@ module _ {s : List Float} {i : ℕ} (at : Passed s i) where
 
   pub passed_bad : (k : ℕ) → i < length s → i < k → finite (get_or s i nan) ≡ false → false ≡ all_finite (take k s)
   passed_bad k h g t = sym (bad_in s i k h g t)
+
+  -- past the list's end
+  pub passed_over : (k : ℕ) → length s ≤ i → i < k → true ≡ all_finite (take k s)
+  passed_over k h g = sym at.is ∙ ap all_finite (take_past i s h ∙ sym (take_past k s (omega arith)))
 
   -- at the list's end or at k, whichever comes first
   pub passed_end : (k : ℕ) → i ≤ min (length s) k → min (length s) k ≤ i → true ≡ all_finite (take k s)

@@ -8,8 +8,8 @@ use native.Mathlib.Numerals.{add-one}
 use native.Mathlib.Omega.{arith}
 use borrow.Author.Tests.{eq-eqb, ne_eqb, eqb-true}
 use lib.Dec.{eqb, T}
-use lib.ListN.{length, take, drop, get_or, set}
-use lib.Seq.{sets, get_or-drop, drop-drop}
+use lib.ListN.{length, take, drop, get_or, set, length-set}
+use lib.Seq.{sets, length-sets, get_or-drop, drop-drop}
 use lib.Ieee.{Float, nan, inf, fin, binary64, fits, is_nan, of_bits, to_bits}
 use lib.Ieee.Bits.{of_bits-to_bits, to_bits-lt, to_bits-of_bits}
 use lib.Ieee.Scale.{finite}
@@ -43,6 +43,9 @@ length_kind k = go k
     go (Turn h) = ap suc (length_number h)
 
 module _ (out : List ℕ) (at : ℕ) where
+  pub length_put : (c : ℕ) (v : List ℕ) → length (sets (set out at c) (at + 1) v) ≡ length out
+  length_put c v = length-sets (set out at c) (at + 1) v ∙ length-set out at c
+
   pub plain_written : {k : Kind} → k ≡ Plain → sets (set out at 0) (at + 1) (little_endian 8 0) ≡ sets out at (kind_bytes k)
   unfolding kind_bytes
   plain_written {k} e = ap (λ (i : ℕ). sets (set out at 0) i (little_endian 8 0)) (add-one at) ∙ ap (λ (r : Kind). sets out at (kind_bytes r)) (sym e)

@@ -59,6 +59,12 @@ module _ {A : Type 0} where
       ap (λ (j : ℕ). read_each w from j (drop (at + w * i) s)) e ∙ one w from (k - (i + 1)) (drop (at + w * i) s)
       ∙ ap (λ (b : List ℕ). from (drop (at + w * i) s) ∷ read_each w from (k - (i + 1)) b) (drop-drop w (at + w * i) s ∙ ap (λ (j : ℕ). drop j s) p)
 
+  pub each_none : (w : ℕ) (from : List ℕ → A) (s : List ℕ) (at k : ℕ) → read_each w from (k - 0) (drop (at + w * 0) s) ≡ read_each w from k (drop at s)
+  each_none w from s at k =
+      let e : k - 0 ≡ k = omega arith in
+      let p : at + w * 0 ≡ at = omega arith in
+      ap₂ (λ (i j : ℕ). read_each w from i (drop j s)) e p
+
   pub each_end : (w : ℕ) (from : List ℕ → A) (b : List ℕ) (k i : ℕ) → i ≡ k → read_each w from (k - i) b ≡ []
   unfolding read_each
   each_end w from b k i e = let z : k - i ≡ 0 = omega arith in ap (λ (j : ℕ). read_each w from j b) z
@@ -67,6 +73,9 @@ module _ {A : Type 0} where
   pub record Reading (w : ℕ) (from : List ℕ → A) (s : List ℕ) (at k : ℕ) (start : List A) (i : ℕ) (out : List A) : Type 0 where
     pub long : length out ≡ length start
     pub comes : sets out i (read_each w from (k - i) (drop (at + w * i) s)) ≡ sets start 0 (read_each w from k (drop at s))
+
+  pub reading_none : {w : ℕ} {from : List ℕ → A} {s : List ℕ} {at k : ℕ} {start : List A} → Reading w from s at k start 0 start
+  reading_none {w} {from} {s} {at} {k} {start} = record { long = refl; comes = ap (sets start 0) (each_none w from s at k) }
 
   module _ {w : ℕ} {from : List ℕ → A} {s : List ℕ} {at k : ℕ} {start : List A} {i : ℕ} {out : List A} (r : Reading w from s at k start i out) where
     pub reading_more : {v : A} → i < k → v ≡ from (drop (at + w * i) s) → Reading w from s at k start (i + 1) (set out i v)
@@ -101,6 +110,12 @@ module _ {A : Type 0} where
   pub record Writing (w : ℕ) (to : A → List ℕ) (l : List A) (k : ℕ) (start : List ℕ) (at i : ℕ) (out : List ℕ) : Type 0 where
     pub long : length out ≡ length start
     pub comes : sets out (at + w * i) (written to (take (k - i) (drop i l))) ≡ sets start at (written to (take k l))
+
+  pub writing_none : {w : ℕ} {to : A → List ℕ} {l : List A} {k : ℕ} {start : List ℕ} {at : ℕ} → Writing w to l k start at 0 start
+  writing_none {w} {to} {l} {k} {start} {at} =
+      let e : k - 0 ≡ k = omega arith in
+      let p : at + w * 0 ≡ at = omega arith in
+      record { long = refl; comes = ap₂ (λ (j n : ℕ). sets start j (written to (take n l))) p e }
 
   module _ {w : ℕ} {to : A → List ℕ} {l : List A} {k : ℕ} {start : List ℕ} {at i : ℕ} {out : List ℕ} (r : Writing w to l k start at i out) where
     pub writing_more : {next : List ℕ} (d : A) → i < k → i < length l → length (to (get_or l i d)) ≡ w → next ≡ sets out (at + w * i) (to (get_or l i d)) → Writing w to l k start at (i + 1) next

@@ -1,10 +1,10 @@
 -- What the bits tell on each way through the root's code, over the format: the laws that its functions cite. Assumes nothing.
 use mathlib.Core.Path.{◌≡◌, sym, ap, ◌∙◌, subst}
-use mathlib.Core.Bool.{Bool, true, false, not}
+use mathlib.Core.Bool.{Bool, true, false, not, cond}
 use Prim.Native.Nat.{ℕ, suc, ◌+◌, ◌-◌, ◌*◌, ◌/◌, ◌%◌, ◌^◌, ◌≤◌, ◌<◌}
 use native.Mathlib.Nat.{lt_of_lt_of_le, mod-eq_of_lt, mod-lt}
 use native.Mathlib.Omega.{arith}
-use borrow.Author.Tests.{le-ltb}
+use borrow.Author.Tests.{lt-ltb, le-ltb}
 use lib.Bits.{bit_and, bit_or, and_mask, or_shifted, or_shifted_r}
 use lib.Count.{count_leading_zeros}
 use lib.Dec.{T, ltb, lit≤}
@@ -12,10 +12,14 @@ use lib.Pow.{pow_pos, pow_mono}
 use lib.Ieee.{Float, Format, binary32, binary64, prec, hid, ones, top, of_bits, ne, nan_bits}
 use lib.Ieee.Bits.{nan_bits_above}
 use Rattle.floats.specs.Refusal.{bad_lone, refused, accepted}
-use Rattle.root.specs.Definition.{near_root, root_units, root_of, rooted}
+use Rattle.root.specs.Definition.{near_root, nearest_of, root_units, root_of, rooted}
 use Rattle.root.specs.Answer.{root_outcome}
 use Rattle.root.proofs.Scaled.{lift, evened, scaled_bits, normal, moved_same, shifts, prec_pos}
 use Rattle.root.proofs.Values.{zero_bits, refused_bits, rooted_bits, low_root, bits_root, is_nan_lem}
+
+-- a d with few enough digits
+pub few_near : (f : Format) {d q : ℕ} → d < 2 ^ (prec f + 1) → q ≡ nearest_of f d → q ≡ near_root (prec f) (d * hid f)
+few_near f {d} h e = e ∙ ap (λ (t : Bool). cond t (near_root (prec f) (d * hid f)) 0) (lt-ltb d (2 ^ (prec f + 1)) h)
 
 -- ---- how the bits are laid out, by the shift p and by the masks that the code makes of l and of s
 masked : (f : Format) (b : ℕ) {l : ℕ} → l ≡ hid f → bit_and b (l - 1) ≡ b % hid f
@@ -96,7 +100,7 @@ module _ (f : Format) (b : ℕ) {l : ℕ} (L : l ≡ hid f) where
   fraction = bit_and b (l - 1)
 
   -- as the code puts the leading digit before it
-  led : {m : ℕ} → m ≡ hid f → bit_or fraction m ≡ hid f + b % hid f
+  pub led : {m : ℕ} → m ≡ hid f → bit_or fraction m ≡ hid f + b % hid f
   led M = rw (masked f b L, M) (subst (λ (x : ℕ). bit_or (b % hid f) x ≡ hid f + b % hid f) (one (hid f)) (or_shifted_r 1 (prec f - 1) (b % hid f) (mod-lt b (pow_pos (prec f - 1))) ∙ ap (λ (x : ℕ). x + b % hid f) (one (hid f))))
     where
       one : (h : ℕ) → 1 * h ≡ h
@@ -120,14 +124,14 @@ module _ (f : Format) (b : ℕ) {l : ℕ} (L : l ≡ hid f) where
         less k = omega arith
 
     -- what `normal_root` ensures of it is the root
-    pub low_out : {o w : ℕ} (O : o ≡ prec f - 1) → w ≡ lift f → {r : Float}
-        → ((n : ℕ) → n * 2 ^ lift f ≡ fraction * 2 ^ (count_leading_zeros 64 fraction - (63 - o)) % 2 ^ 64 * 2 ^ (w - (count_leading_zeros 64 fraction - (63 - o))) → r ≡ root_units f n)
+    pub low_out : {o e : ℕ} (O : o ≡ prec f - 1) → e ≡ lift f - (count_leading_zeros 64 fraction - (63 - o)) → {r : Float}
+        → ((n : ℕ) → n * 2 ^ lift f ≡ fraction * 2 ^ (count_leading_zeros 64 fraction - (63 - o)) % 2 ^ 64 * 2 ^ e → r ≡ root_units f n)
         → r ≡ root_of f (of_bits f b)
-    low_out {o} {w} O W k =
+    low_out {o} {e} O E k =
         let z = count_leading_zeros 64 fraction - (63 - o) in
         let m = subnormal O in
-        let e : 0 + lift f ≡ w = omega (arith, W) in
-        k (fraction * 2 ^ 0) (moved_same f fraction z 0 m.few ∙ ap (λ (x : ℕ). fraction * 2 ^ z * 2 ^ (x - z)) e ∙ ap (λ (x : ℕ). x * 2 ^ (w - z)) (sym m.kept))
+        let i : 0 + lift f - z ≡ e = omega (arith, E) in
+        k (fraction * 2 ^ 0) (moved_same f fraction z 0 m.few ∙ ap (λ (x : ℕ). fraction * 2 ^ z * 2 ^ x) i ∙ ap (λ (x : ℕ). x * 2 ^ e) (sym m.kept))
         ∙ ap (λ (x : ℕ). root_units f (x * 2 ^ 0)) all ∙ sym (low_root f b a small)
 
   -- the same with an exponent's field

@@ -1,7 +1,7 @@
 -- IEEE 754's squareRoot, to nearest, over the format. Definitions only.
 use Rattle.std.specs.Prelude.{ℕ, zero, suc, ◌+◌, ◌-◌, ◌*◌, ◌/◌, ◌^◌, Bool, true, false, cond, leb, ltb, Float}
 use Rattle.std.specs.Float.{nan, inf, fin, Format}
-use Rattle.std.specs.Float.Ieee.{prec, low, size, odd}
+use Rattle.std.specs.Float.Ieee.{prec, low, hid, size, odd}
 use Rattle.floats.specs.Units.{units_of}
 
 -- the q with q * q ≤ n < (q + 1) * (q + 1), for an n below 4 ^ d
@@ -13,6 +13,10 @@ floor_root (suc d) n = let q = 2 * floor_root d (n / 4) in cond (leb ((q + 1) * 
 unfoldable pub near_root : ℕ → ℕ → ℕ
 unfolding floor_root
 near_root d n = let q = floor_root d n in cond (ltb q (n - q * q)) (q + 1) q
+
+-- That nearest to the root of d * hid, for a d of at most prec + 1 digits; 0 for a larger d.
+abbrev pub nearest_of : Format → ℕ → ℕ
+nearest_of f d = cond (ltb d (2 ^ (prec f + 1))) (near_root (prec f) (d * hid f)) 0
 
 -- In units, the root of n units is the root of n * 2 ^ low. Of the root's digits the format keeps prec, and drops this many.
 abbrev pub dropped : Format → ℕ → ℕ

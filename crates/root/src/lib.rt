@@ -72,7 +72,7 @@ fn positive_root<T: Rooted>(b: u64) -> T
 pub fn square_root<T: Rooted>(x: T) -> Result<T, Refusal>
     ensures { T.seen (λ A. Result A Refusal) result ≡ root_outcome T.format (T.float x) }
 {
-    // a NaN has no one pattern, so it is told before the bits are taken
+    // a NaN has no bits of its own, so it is told before the bits are taken
     if x != x {
         return Err(Refusal::Number(Slice::Lone, 0));
     }

@@ -1,12 +1,14 @@
 // What the root needs of a number: its bits and how they are laid out, and the root's digits.
-ghost use Rattle.std.specs.Prelude.{◌≡◌, ℕ, ◌+◌, ◌-◌, ◌*◌, ◌^◌, ◌<◌};
-ghost use Rattle.std.specs.Float.{NotNan, NotNanBits};
-ghost use Rattle.std.specs.Float.Ieee.{prec, low, hid, ones, top, of_bits};
+ghost use Rattle.std.specs.Prelude.{◌≡◌, ℕ, ◌-◌};
+ghost use Rattle.std.specs.Float.Ieee.{prec, low, hid, ones, top, of_bits, to_bits};
 ghost use Rattle.std.proofs.Common.{refl};
-ghost use Rattle.root.specs.Definition.{near_root};
+ghost use Rattle.root.specs.Definition.{nearest_of};
 
 use crate::{root_digits, wide};
 use floats::Number;
+use std::num::{
+    f32_from_bits_with_nan, f32_to_bits_with_nan, f64_from_bits_with_nan, f64_to_bits_with_nan,
+};
 
 pub trait Rooted: Number {
     ghost PLACES: { ℕ };
@@ -34,20 +36,18 @@ pub trait Rooted: Number {
     // The sign's bit.
     const SIGN: u64;
 
-    // The bits that stand for a number.
+    // The bits that stand for a number. A NaN, which has many, gets one of them.
     fn bits(self) -> u64
-        requires { NotNan (Self.float self) }
-        ensures { of_bits Self.format result ≡ Self.float self };
+        ensures value { result ≡ to_bits Self.format (Self.float self) }
+        ensures back { of_bits Self.format result ≡ Self.float self };
 
-    // The number that bits stand for.
+    // The number that bits stand for. What stands above the sign's bit counts as the sign.
     fn of_bits(b: u64) -> Self
-        requires { (b < 2 * top Self.format) × NotNanBits Self.format b }
         ensures { Self.float result ≡ of_bits Self.format b };
 
-    // The whole number nearest to the root of d * LEADING.
+    // The whole number nearest to the root of d * LEADING, for a d that has at most one digit more than the format; 0 for a larger one.
     fn nearest_root(d: u64) -> u64
-        requires { d < 2 ^ (prec Self.format + 1) }
-        ensures { result ≡ near_root (prec Self.format) (d * hid Self.format) };
+        ensures { result ≡ nearest_of Self.format d };
 
     ghost places_law: { PLACES ≡ prec Self.format - 1 };
 
@@ -82,14 +82,17 @@ impl Rooted for f64 {
     const SIGN: u64 = 0x8000_0000_0000_0000;
 
     fn bits(self) -> u64 {
-        self.to_bits()
+        f64_to_bits_with_nan(self)
     }
 
     fn of_bits(b: u64) -> f64 {
-        f64::from_bits(b)
+        f64_from_bits_with_nan(b)
     }
 
     fn nearest_root(d: u64) -> u64 {
+        if d >= 0x40_0000_0000_0000 {
+            return 0;
+        }
         wide::nearest_root(d)
     }
 
@@ -126,15 +129,23 @@ impl Rooted for f32 {
     const SIGN: u64 = 0x8000_0000;
 
     fn bits(self) -> u64 {
-        self.to_bits() as u64
+        u64::from(f32_to_bits_with_nan(self))
     }
 
     fn of_bits(b: u64) -> f32 {
-        f32::from_bits(b as u32)
+        let word = if b < Self::SIGN {
+            b
+        } else {
+            Self::SIGN + b % Self::SIGN
+        };
+        f32_from_bits_with_nan(word as u32)
     }
 
     // so few digits are quick one by one
     fn nearest_root(d: u64) -> u64 {
+        if d >= 0x200_0000 {
+            return 0;
+        }
         root_digits::<24>(d)
     }
 

@@ -76,7 +76,7 @@ fn guessed_root(d: u64) -> u64
 }
 
 // The whole number nearest to the root of d * 2^52: a guess that is judged to be it, or else digit by digit.
-pub fn nearest_root(d: u64) -> u64
+pub(crate) fn nearest_root(d: u64) -> u64
     requires { d < 2 ^ 54 }
     ensures { result ≡ near_root 53 (d * 2 ^ 52) }
 {

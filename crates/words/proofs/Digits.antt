@@ -1,20 +1,20 @@
 -- Reading a word digit by digit: what is left of it comes to the whole. Assumes nothing.
 use mathlib.Core.Path.{◌≡◌, refl, sym, ap, ◌∙◌, subst}
-use mathlib.Core.Bool.{Bool, true, false, cond}
+use mathlib.Core.Bool.{Bool, true, false, ◌&&◌, cond, true≢false}
 use mathlib.Core.List.{List}
 use Prim.Native.Nat.{ℕ, zero, suc, ◌+◌, ◌-◌, ◌*◌, ◌^◌, ◌≤◌, ◌<◌}
 use native.Mathlib.Nat.{zero-add, pow-succ', zero-lt-suc, pow-le-pow_right}
 use native.Mathlib.Numerals.{add-one}
 use native.Mathlib.Omega.{arith}
-use borrow.Author.Tests.{lt-ltb, le-ltb}
-use lib.Dec.{ltb}
+use borrow.Author.Tests.{leb-true, lt-ltb, le-ltb}
+use lib.Dec.{T, leb, ltb, ltb→lt}
 use lib.Ieee.{Format, binary32, binary64}
 use lib.ListN.{length, get_or, drop, get_or-eq_default, length-take, length-drop}
 use lib.Seq.{get_or-take, get_or-drop}
 use Rattle.std.specs.Prelude.{slice_range}
 use Rattle.std.proofs.lemmas.Bool.Decides.{nat_tests}
 use Rattle.std.proofs.lemmas.Option.{cond_some}
-use Rattle.words.specs.Words.{Word, Bits, Bad, digit_of, digit_in, digits_from, width, word_of}
+use Rattle.words.specs.Words.{Word, Bits, Bad, between, digit_of, digit_in, digits_from, width, word_of}
 
 -- ---- a digit
 
@@ -125,3 +125,24 @@ fit {f} {s} {at} {k} {v} {d} r h l = omega (arith, r.small, most)
 
     most : 16 ^ k ≤ 16 ^ 15
     most = pow-le-pow_right (zero-lt-suc 15) few
+
+below : (k : ℕ) (s : List ℕ) (i v j : ℕ) {b : ℕ} → v < 16 ^ j → digits_from k s i v ≡ Bits b → b < 16 ^ (j + k)
+unfolding digits_from
+below zero s i v j {b} h e = let n : v ≡ b = cc in let m : j + 0 ≡ j = omega arith in rw m (omega arith)
+below (suc k) s i v j {b} h e = go (ltb (digit_of (get_or s i 0)) 16) (ltb→lt _ 16) (λ l g. below k s (i + 1) (v * 16 + digit_of (get_or s i 0)) (suc j) l g) e
+  where
+    go : (t : Bool) {d : ℕ} {w : Word} → (T t → d < 16) → (v * 16 + d < 16 ^ suc j → w ≡ Bits b → b < 16 ^ (suc j + k)) → cond t w Bad ≡ Bits b → b < 16 ^ (j + suc k)
+    go true l rest g = let m : j + suc k ≡ suc j + k = omega arith in let p = l tt in rw m (rest (omega (arith, pow-succ' 16 j)) g)
+    go false l rest g = let z : ◌≡◌ {A = ℕ} 0 1 = cc in absurd (omega arith)
+
+-- a word is below 16 to the number of its digits
+pub word_below : (f : Format) (s : List ℕ) (i : ℕ) {b : ℕ} → word_of f s i ≡ Bits b → b < 16 ^ width f
+word_below f s i e = let m : width f ≡ 0 + width f = omega arith in rw m (below (width f) s i 0 0 (omega arith) e)
+
+-- what lies between two numbers is not below the first
+pub at_least : (a b c : ℕ) → between a b c ≡ true → a ≤ c
+at_least a b c h = go (leb a c) (leb-true a c) h
+  where
+    go : (t : Bool) → (t ≡ true → a ≤ c) → t && leb c b ≡ true → a ≤ c
+    go true f k = f refl
+    go false f k = absurd (true≢false (sym k))

@@ -9,13 +9,10 @@ mod worded;
 
 pub use worded::Worded;
 
-// The number with these bits. A NaN is made by a division: the bits of one are not turned into a number as they are.
+// The number with these bits.
 pub fn float_of<T: Worded>(b: u64) -> T
     ensures { T.float result ≡ of_bits T.format b }
 {
-    if T::INFINITY_BITS < b % T::SIGN_BIT {
-        return T::ZERO / T::ZERO;
-    }
     T::from_word(b)
 }
 
@@ -24,9 +21,6 @@ pub fn bits_of<T: Worded>(x: T) -> u64
     ensures value { result ≡ to_bits T.format (T.float x) }
     ensures short { result < 16 ^ width T.format }
 {
-    if x != x {
-        return T::NAN_BITS;
-    }
     x.held();
     x.to_word()
 }

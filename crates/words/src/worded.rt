@@ -1,6 +1,5 @@
 // What reading and writing a number as a word need to know of its format. What is written over it is proved of an f32 and an f64 at once.
 ghost use Rattle.std.specs.Prelude.{◌≡◌, ℕ, ◌+◌, ◌*◌, ◌/◌};
-ghost use Rattle.std.specs.Float.{NotNan, NotNanBits};
 ghost use Rattle.std.specs.Float.Ieee.{of_bits, to_bits, hid, ones, top};
 ghost use Rattle.std.proofs.Common.{refl};
 ghost use Rattle.words.specs.Words.{width};
@@ -27,13 +26,12 @@ pub trait Worded: Number {
     // The bits that a NaN is written with.
     const NAN_BITS: u64;
 
-    // The number with these bits. What stands above the sign's bit counts as the sign.
+    // The number with these bits. What stands above the sign's bit counts as the sign. A NaN is made by a division: the bits of one are not turned into a number as they are.
     fn from_word(b: u64) -> Self
-        requires { NotNanBits Self.format b }
         ensures { Self.float result ≡ of_bits Self.format b };
 
+    // The bits of a number.
     fn to_word(self) -> u64
-        requires { NotNan (Self.float self) }
         ensures { result ≡ to_bits Self.format (Self.float self) };
 
     ghost digits_law: { DIGITS ≡ width Self.format };
@@ -63,10 +61,16 @@ impl Worded for f64 {
     const NAN_BITS: u64 = 0x7ff8_0000_0000_0000;
 
     fn from_word(b: u64) -> f64 {
+        if Self::INFINITY_BITS < b % Self::SIGN_BIT {
+            return Self::ZERO / Self::ZERO;
+        }
         f64::from_bits(b)
     }
 
     fn to_word(self) -> u64 {
+        if self != self {
+            return Self::NAN_BITS;
+        }
         f64::to_bits(self)
     }
 
@@ -97,11 +101,17 @@ impl Worded for f32 {
     const NAN_BITS: u64 = 0x7fc0_0000;
 
     fn from_word(b: u64) -> f32 {
+        if Self::INFINITY_BITS < b % Self::SIGN_BIT {
+            return Self::ZERO / Self::ZERO;
+        }
         let sign = (b / Self::SIGN_BIT).min(1);
         f32::from_bits((sign * Self::SIGN_BIT + b % Self::SIGN_BIT) as u32)
     }
 
     fn to_word(self) -> u64 {
+        if self != self {
+            return Self::NAN_BITS;
+        }
         u64::from(f32::to_bits(self))
     }
 

@@ -1,8 +1,10 @@
 -- s takes one digit more where the exponent is odd, and the root's bits are put together from its exponent and its digits.
-use Rattle.std.proofs.Common.{◌≡◌, sym, ◌∙◌}
+use Rattle.std.proofs.Common.{◌≡◌, ◌+◌, ◌^◌, ◌<◌, sym, ◌∙◌, arith}
 use lib.Bits.{and_mask}
+use lib.Ieee.{prec}
+use lib.Pow.{pow-add}
 use Rattle.root.proofs.Scaled.{evened, odd_up, even_up}
-use Rattle.root.proofs.Ways.{bits_in, no_nan_out, bits_out}
+use Rattle.root.proofs.Ways.{few_near, bits_out}
 use Rattle.root.proofs.normal_root.Goals as goal
 use Rattle.root.proofs.normal_root.Goals.{then-a-eq1, else-a-eq1, After-PLACES}
 
@@ -15,19 +17,15 @@ joined g c =
       | else-a-eq1 w ↦ even_up s a _ (λ e. w.if-a-eq1.false (and_mask a 1 ∙ e)) w.d-is
     ]
 
-pub of_bits-requires : goal.of_bits-requires
-of_bits-requires g c =
-    let r = g.met.T.Rooted in
-    let d = c.requires.digits in
-    let e = c.requires.exponent in
-    let q = c.nearest_root-q.ensures in
-    let p = c.PLACES.ensures ∙ r.places_law in
-    let l = c.LEADING.ensures ∙ r.leading_law in
-    (bits_in _ c.args.s c.args.a d.0 d.1 e (joined g c) q p l, no_nan_out _ c.args.s c.args.a d.0 d.1 e (joined g c) q p l)
+-- a digit more at most
+few : (g : _) (c : After-PLACES g) → c.if-a-eq1.d < 2 ^ (prec g.T.Number.format + 1)
+few g c =
+    let p = pow-add 2 (prec g.T.Number.format) 1 in
+    elim c.if-a-eq1.branch [ then-a-eq1 w ↦ omega (arith, p, c.requires.digits.1) | else-a-eq1 w ↦ omega (arith, p, c.requires.digits.1) ]
 
 pub returns : goal.returns
 returns g c =
     let r = g.met.T.Rooted in
     let d = c.requires.digits in
-    let j = joined g (goal.at.returns g c).After-PLACES in
-    λ n e. c.of_bits.ensures ∙ bits_out _ c.args.s c.args.a d.0 d.1 c.requires.exponent j c.nearest_root-q.ensures (c.PLACES.ensures ∙ r.places_law) (c.LEADING.ensures ∙ r.leading_law) n e
+    let w = (goal.at.returns g c).After-PLACES in
+    λ n e. c.of_bits.ensures ∙ bits_out _ c.args.s c.args.a d.0 d.1 c.requires.exponent (joined g w) (few_near _ (few g w) c.nearest_root-q.ensures) (c.PLACES.ensures ∙ r.places_law) (c.LEADING.ensures ∙ r.leading_law) n e

@@ -1,5 +1,5 @@
 -- The bits give the significand and the exponent of `normal_root`.
-use Rattle.std.proofs.Common.{◌∙◌}
+use Rattle.std.proofs.Common.{◌∙◌, arith}
 use Rattle.root.proofs.Ways.{subnormal, low_out, high_out}
 use Rattle.root.proofs.positive_root.Goals as goal
 
@@ -19,7 +19,7 @@ pub returns-then-exponent-eq0 : goal.returns-then-exponent-eq0
 returns-then-exponent-eq0 g c =
     let r = g.met.T.Rooted in
     low_out _ c.args.b (c.LEADING.ensures ∙ r.leading_law) (c.PLACES.ensures ∙ r.places_law) c.requires.0 c.if-exponent-eq0.true (c.PLACES-then-exponent-eq0.ensures ∙ r.places_law)
-    (c.LOWEST.ensures ∙ r.lowest_law) c.normal_root.ensures
+    (omega (arith, c.LOWEST.ensures ∙ r.lowest_law)) c.normal_root.ensures
 
 pub returns-else-exponent-eq0 : goal.returns-else-exponent-eq0
 returns-else-exponent-eq0 g c =

@@ -22,7 +22,7 @@ returns-then-b-SIGN-eq0 g c =
     let n = g.T.Number in
     let b = c.bits-b.result in
     seen_accepted n.same (λ A. A) c.args.x ∙ ap accepted (sym (g.met.T.Number.float_law c.args.x))
-    ∙ zero_out n.format (n.float c.args.x) b c.bits-b.ensures (sym (unsigned n.format b (c.SIGN.ensures ∙ g.met.T.Rooted.sign_law)) ∙ c.if-b-SIGN-eq0.true)
+    ∙ zero_out n.format (n.float c.args.x) b c.bits-b.ensures.back (sym (unsigned n.format b (c.SIGN.ensures ∙ g.met.T.Rooted.sign_law)) ∙ c.if-b-SIGN-eq0.true)
 
 pub returns-then-b-PLACES : goal.returns-then-b-PLACES
 returns-then-b-PLACES g c =
@@ -30,7 +30,7 @@ returns-then-b-PLACES g c =
     let r = g.met.T.Rooted in
     let b = c.bits-b.result in
     seen_refused n.same (λ A. A) bad_lone
-    ∙ refused_out n.format (n.float c.args.x) b c.bits-b.ensures (λ e. c.if-b-SIGN-eq0.false (unsigned n.format b (c.SIGN.ensures ∙ r.sign_law) ∙ e))
+    ∙ refused_out n.format (n.float c.args.x) b c.bits-b.ensures.back (λ e. c.if-b-SIGN-eq0.false (unsigned n.format b (c.SIGN.ensures ∙ r.sign_law) ∙ e))
     (field_from n.format b (c.PLACES.ensures ∙ r.places_law) (c.INFINITE.ensures ∙ r.infinite_law) c.if-b-PLACES.true)
 
 pub returns : goal.returns
@@ -39,5 +39,5 @@ returns g c =
     let r = g.met.T.Rooted in
     let b = c.bits-b.result in
     seen_accepted n.same (λ A. A) c.positive_root.result ∙ ap accepted (sym (g.met.T.Number.float_law c.positive_root.result))
-    ∙ root_out n.format (n.float c.args.x) b c.bits-b.ensures (λ e. c.if-b-SIGN-eq0.false (unsigned n.format b (c.SIGN.ensures ∙ r.sign_law) ∙ e))
+    ∙ root_out n.format (n.float c.args.x) b c.bits-b.ensures.back (λ e. c.if-b-SIGN-eq0.false (unsigned n.format b (c.SIGN.ensures ∙ r.sign_law) ∙ e))
     (field_below n.format b (c.PLACES.ensures ∙ r.places_law) (c.INFINITE.ensures ∙ r.infinite_law) c.if-b-PLACES.false) c.positive_root.ensures

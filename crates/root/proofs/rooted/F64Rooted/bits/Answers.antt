@@ -1,9 +1,9 @@
 -- The bits of an f64 stand for it.
-use Rattle.std.proofs.Common.{sym, subst}
+use Rattle.std.proofs.Common.{sym, ap, ◌∙◌, subst, arith}
 use lib.Dec.{T}
-use lib.Ieee.{binary64}
+use lib.Ieee.{binary64, of_bits}
 use lib.Ieee.Bits.{of_bits-to_bits}
 use Rattle.root.proofs.rooted.F64Rooted.bits.Goals as goal
 
-pub returns : goal.returns
-returns c = of_bits-to_bits binary64 _ (subst T (sym c.well_formed.0.1) tt)
+pub returns-clause-back : goal.returns-clause-back
+returns-clause-back c = ap (of_bits binary64) (omega (arith, c.f64_to_bits_with_nan.ensures)) ∙ of_bits-to_bits binary64 c.args.self (subst T (sym c.well_formed.0.1) tt)
