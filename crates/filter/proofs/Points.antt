@@ -1,11 +1,11 @@
--- The tests of `point_refusal`, and what their number says of the part that `point` hands back. Assumes nothing.
+-- The tests of `point_refusal`, and what their number says of the part that `point` hands back; and the part of a list that has its places. Assumes nothing.
 use Prim.Native.Nat.{ℕ, ◌≤◌, ◌+◌, ◌*◌, ◌-◌}
 use mathlib.Core.Path.{◌≡◌, refl, sym, ap, ◌∙◌}
 use mathlib.Core.Bool.{Bool, true, false, ◌&&◌, cond}
 use mathlib.Core.List.{List, []}
 use native.Mathlib.Nat.{mul-le-mul_right, add-sub_cancel_left}
 use native.Mathlib.Omega.{arith}
-use borrow.Author.Tests.{eq-eqb, ne_eqb}
+use borrow.Author.Tests.{eq-eqb, ne_eqb, le-leb}
 use lib.Dec.{leb}
 use lib.ListN.{length, take, drop}
 use lib.Ieee.{Float, Format}
@@ -15,7 +15,7 @@ use Rattle.floats.specs.Numbers.{bytes}
 use Rattle.floats.proofs.Refusals.{number_of}
 use Rattle.filter.specs.Asked.{in_range, in_order, first_refusal}
 use Rattle.filter.specs.Calls.{sized, observed_numbers}
-use Rattle.filter.specs.Point.{point_asks, point_refusal, point_of, point_start}
+use Rattle.filter.specs.Point.{part_of, part_start, point_asks, point_refusal, point_of, point_start}
 use Rattle.filter.proofs.Sizes.{and_left, and_right, and_true, range_le, point_in, within_both}
 use Rattle.filter.proofs.Order.{none as empty, tested_early, passed, goes_on, refuses, number_given}
 use Rattle.filter.proofs.Lines.{states_le, long_le}
@@ -60,6 +60,14 @@ module _ (f : Format) (l : List Float) (n k : ℕ) (at : ℕ × ℕ) where
   pub start_part : (point_refusal f l n k).number ≡ 0 → (at.0, k * n * bytes f + at.1) ≡ point_start f l n k at
   unfolding point_start
   start_part z = simp (eq-eqb _ _ z)
+
+-- of places that a list has, the part, and where it begins
+module _ {A : Type 0} (l : List A) (a e : ℕ) (h : a ≤ e) (i : e ≤ length l) where
+  pub given : part_of l a e ≡ take (e - a) (drop a l)
+  given = rw (le-leb a e h, le-leb e (length l) i)
+
+  pub begun : (f : Format) (at : ℕ × ℕ) → part_start l a e f at ≡ (at.0, a * bytes f + at.1)
+  begun f at = rw (le-leb a e h, le-leb e (length l) i)
 
 -- the floats of a part are that part of the floats
 pub floats_part : {A : Type 0} {floats : List A → List Float} {seen : (F : Type 0 → Type 0) → F A → F Float} (law : (l : List A) → floats l ≡ seen List l) (same : (P : (B : Type 0) → ((F : Type 0 → Type 0) → F B → F Float) → Type 0) → P Float (λ F x. x) → P A seen) (m i : ℕ) (l : List A) → floats (take m (drop i l)) ≡ take m (drop i (floats l))

@@ -1,28 +1,34 @@
 // Point k of a lent list: that part of the list itself, and a sister call that gives number and place.
-ghost use Rattle.std.specs.Prelude.{◌≡◌, ◌≤◌, ◌+◌, ◌-◌, ◌*◌, length, take, drop};
-ghost use Rattle.floats.specs.Numbers.{bytes};
-ghost use Rattle.filter.specs.Point.{point_refusal, point_of, point_start};
+ghost use Rattle.std.specs.Prelude.{◌≡◌};
+ghost use Rattle.filter.specs.Point.{part_of, part_start, point_refusal, point_of, point_start};
 
 use crate::checks;
 use floats::{Number, Verdict};
 
-// Numbers of which a list has one after the other, as many bytes each as their format says. Generic code doesn't know how many a value takes, so each width says where a part of a list begins.
+// Numbers of which a list has one after the other, as many bytes each as their format says. Generic code doesn't know how many a value takes, so each width says where a part of a list begins: from place a up to e, and where the list hasn't those places, an empty part at its beginning.
 pub trait Spaced: Number {
     fn part(list: &[Self], a: usize, e: usize) -> &[Self]
-        requires { (a ≤ e) × (e ≤ length list.now) }
-        ensures value { result.now ≡ take (e - a) (drop a list.now) }
-        ensures start { result.ref_ptr ≡ (list.entry.ref_ptr.0, a * bytes Self.format + list.entry.ref_ptr.1) };
+        ensures value { result.now ≡ part_of list.now a e }
+        ensures start { result.ref_ptr ≡ part_start list.now a e Self.format list.entry.ref_ptr };
 }
 
 impl Spaced for f64 {
     fn part(list: &[f64], a: usize, e: usize) -> &[f64] {
-        &list[a..e]
+        if a <= e && e <= list.len() {
+            &list[a..e]
+        } else {
+            &list[..0]
+        }
     }
 }
 
 impl Spaced for f32 {
     fn part(list: &[f32], a: usize, e: usize) -> &[f32] {
-        &list[a..e]
+        if a <= e && e <= list.len() {
+            &list[a..e]
+        } else {
+            &list[..0]
+        }
     }
 }
 

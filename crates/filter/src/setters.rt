@@ -79,7 +79,7 @@ impl<T: Number> Filter<T> {
             ..self.sheet
         };
         let track = Track {
-            stale: true,
+            stale: true, // its points and weights are the old parameters'
             ..self.track
         };
         Filter { sheet, track }.answer(refusal)

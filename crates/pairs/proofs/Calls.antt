@@ -48,7 +48,7 @@ module _ (f : Format) (p : Pair) where
   own_reply w c h = rw h
 
   -- what is made of its reply, and a buffer b that its numbers or its bytes go to
-  own_told : {A : Type 0} (g : Reply → A) (w : Side) (c : Call) {s : Filter} {r : A} → on_sheet c ≡ false → s ≡ solo p w → r ≡ g (step f s c).reply → r ≡ g (pair_step f p w c).reply
+  pub own_told : {A : Type 0} (g : Reply → A) (w : Side) (c : Call) {s : Filter} {r : A} → on_sheet c ≡ false → s ≡ solo p w → r ≡ g (step f s c).reply → r ≡ g (pair_step f p w c).reply
   own_told g w c h e d = d ∙ ap (λ (t : Filter). g (step f t c).reply) e ∙ ap g (own_reply w c h)
 
   pub own_refusal : (w : Side) (c : Call) {s : Filter} {r : Verdict} → on_sheet c ≡ false → s ≡ solo p w → r ≡ (step f s c).reply.refusal → r ≡ (pair_step f p w c).reply.refusal

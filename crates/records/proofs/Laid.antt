@@ -4,7 +4,7 @@ use mathlib.Core.Path.{◌≡◌, sym, ap, ap₂, ◌∙◌}
 use mathlib.Core.List.{List, ◌++◌, append_assoc}
 use native.Mathlib.Omega.{arith}
 use lib.ListN.{length, take, length-append}
-use lib.Seq.{sets, length-take-le}
+use lib.Seq.{sets, length-sets, length-take-le}
 use lib.Ieee.{Float}
 use Rattle.floats.specs.Fronts.{over}
 use Rattle.angles.specs.Kinds.{Kind}
@@ -28,6 +28,9 @@ laid_more {start} {w} {at} {out} r {next} v {to} e h =
     }
 
 module _ {start w : List ℕ} {at : ℕ} {out : List ℕ} (r : Laid start w at out) where
+  pub laid_long : length out ≡ length start
+  laid_long = ap length r.is ∙ length-sets start 0 w
+
   pub laid_end : at ≤ length start → out ≡ over w start
   laid_end h = r.is ∙ sets_over start w (omega (arith, r.here))
 

@@ -1,14 +1,15 @@
 -- What stands in each place of the weights, the points, the mean, the deviations and the spread. Assumes nothing.
-use Prim.Native.Nat.{ℕ, zero, suc, ◌+◌, ◌-◌, ◌<◌, ◌≤◌}
-use mathlib.Core.Path.{◌≡◌, refl, sym, ap, ◌∙◌}
+use Prim.Native.Nat.{ℕ, zero, suc, ◌+◌, ◌-◌, ◌^◌, ◌<◌, ◌≤◌}
+use mathlib.Core.Path.{◌≡◌, refl, sym, ap, ◌∙◌, subst}
 use mathlib.Core.Bool.{Bool, true, false, ◌&&◌, cond, true≢false, false≢true}
 use mathlib.Core.List.{List, [], ◌∷◌}
 use borrow.Author.Tests.{ne_eqb, le-leb, lt-leb}
 use native.Mathlib.Nat.{add-mul}
 use native.Mathlib.Omega.{arith}
-use lib.Dec.{eqb}
+use lib.Dec.{T, eqb}
+use lib.IntN.{pos}
 use lib.ListN.{length, get_or}
-use lib.Ieee.{Float, nan, Format, add, sub}
+use lib.Ieee.{Float, nan, Format, binary32, binary64, add, sub, in_float}
 use Rattle.floats.specs.Numbers.{plus_zero, zeros, all_finite, above_zero}
 use Rattle.matrix.specs.Folds.{rows_of}
 use Rattle.angles.specs.Kinds.{Kind}
@@ -25,9 +26,21 @@ use Rattle.sigma.proofs.Flat.{point_in}
 pub other : (a b : Float) (k : ℕ) → 0 < k → b ≡ cond (eqb k 0) a b
 other a b k h = sym (ap (λ (t : Bool). cond t a b) (ne_eqb k 0 (λ (e : k ≡ 0). omega arith)))
 
--- what 6 asks, of what was computed
+-- up to 8 states are exact in either format
+pub states_exact : (f : Format) (n : ℕ) → n ≤ 8 → T (in_float f (pos n))
+unfolding in_float
+states_exact binary32 n h = subst T (sym (le-leb n (2 ^ 24) (omega arith))) tt
+states_exact binary64 n h = subst T (sym (le-leb n (2 ^ 53) (omega arith))) tt
+
+-- what 6 asks, of what was computed: once N has passed, the others decide; before that, nothing does
 abbrev pub passes : Weighting → Bool
 passes v = above_zero v.scale && all_finite (v.w0m ∷ v.w0c ∷ v.wi ∷ [])
+
+pub others_decide : (v : Weighting) {b : Bool} → b ≡ above_zero v.scale → b ≡ true → all_finite (v.w0m ∷ v.w0c ∷ v.wi ∷ []) ≡ passes v
+others_decide v e t = ap (λ (a : Bool). a && all_finite (v.w0m ∷ v.w0c ∷ v.wi ∷ [])) (sym t ∙ e)
+
+pub n_decides : (v : Weighting) {b : Bool} → b ≡ above_zero v.scale → b ≡ false → false ≡ passes v
+n_decides v e t = ap (λ (a : Bool). a && all_finite (v.w0m ∷ v.w0c ∷ v.wi ∷ [])) (sym t ∙ e)
 
 -- the four tests by one after the other: the first three are passed and the fourth decides, or one of them has failed
 pub fourth_decides : (a b c d : Bool) {v r : Bool} → v ≡ ((a && b) && c) → v ≡ true → r ≡ d → r ≡ (a && (b && (c && (d && true))))
