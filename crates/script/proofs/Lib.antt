@@ -1,4 +1,5 @@
 -- Laws that the proofs of `script` cite.
+pub mod Cases
 pub mod Digits
 pub mod Letters
 pub mod Lists

@@ -4,7 +4,7 @@ ghost use Rattle.script.specs.Page.{page};
 ghost use Rattle.script.specs.Hex.{byte_of, pairs_in, bytes_of, byte_mark, put_byte, put_each, put_bytes};
 
 use crate::text::{Read, part, same_bytes, token_at};
-use crate::write::put;
+use crate::write::{less, put};
 use std::array;
 
 // The byte of the two digits at place at and after it.
@@ -40,7 +40,7 @@ pub fn bytes_at(s: &[u8], at: usize, out: &mut [u8; 4096]) -> Option<Read<usize>
             next: t.end,
         });
     }
-    let len = pairs(t.end.saturating_sub(t.start))?;
+    let len = pairs(less(t.end, t.start))?;
     for i in 0..len {
         out[i] = byte_at(s, t.start + 2 * i)?;
     }

@@ -7,6 +7,7 @@ ghost use Rattle.script.specs.Numbers.{size_of, number_of, list_of, kind_of, mar
 
 use crate::marks::Marks;
 use crate::text::{Read, part, same_bytes, token_at};
+use crate::write::less;
 use angles::Kind;
 use std::array;
 use words::Worded;
@@ -35,7 +36,7 @@ pub fn number_at<T: Worded>(s: &[u8], at: usize) -> Option<Read<T>>
     ensures { T.seen (λ A. Option (Read A)) result ≡ number_of T.format s.now at }
 {
     let t = token_at(s, at);
-    let digits = t.end.saturating_sub(t.start);
+    let digits = less(t.end, t.start);
     if digits != T::DIGITS {
         return None;
     }

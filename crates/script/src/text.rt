@@ -33,7 +33,8 @@ fn belongs(c: u8, class: Class) -> bool
 fn run_end(s: &[u8], at: usize, class: Class) -> usize
     ensures { result ≡ end_of class s.now at }
 {
-    let run = s.iter().skip(at).take_while(|c| belongs(**c, class));
+    let rest = &s[at.min(s.len())..];
+    let run = rest.iter().take_while(|c| belongs(**c, class));
     at + run.count()
 }
 

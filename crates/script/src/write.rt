@@ -19,6 +19,13 @@ pub fn put(out: &mut [u8], at: usize, s: &[u8]) -> usize
     end
 }
 
+// a - b, or 0.
+pub fn less(a: usize, b: usize) -> usize
+    ensures { result ≡ a - b }
+{
+    a.saturating_sub(b)
+}
+
 // The first len bytes of s, as far as it has them.
 pub fn first(s: &[u8], len: usize) -> &[u8]
     ensures { result.now ≡ take len s.now }
@@ -31,7 +38,7 @@ pub fn gather(line: &mut [u8], at: usize, s: &[u8]) -> usize
     ensures value { result ≡ (put_of (take (length line.old - at) s.now) (page line.old at)).used }
     ensures line_after { line.new ≡ (put_of (take (length line.old - at) s.now) (page line.old at)).bytes }
 {
-    let room = line.len().saturating_sub(at);
+    let room = less(line.len(), at);
     put(line, at, first(s, room))
 }
 

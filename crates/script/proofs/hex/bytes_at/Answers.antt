@@ -16,13 +16,13 @@ returns-in_err-len-clause-value c =
     let a = c.args in
     let t = c.token_at-t in
     c.from_residual.ensures
-    ∙ (no_pair a.s.now a.at a.out.now t.ensures (tested a.s.now t.result (45 ∷ []) c.part.ensures c.same_bytes.ensures c.if-same_bytes.false) (c.in_err-len.ensures ∙ ap pairs_in c.saturating_sub.ensures)).0
+    ∙ (no_pair a.s.now a.at a.out.now t.ensures (tested a.s.now t.result (45 ∷ []) c.part.ensures c.same_bytes.ensures c.if-same_bytes.false) (c.in_err-len.ensures ∙ ap pairs_in c.less.ensures)).0
 
 pub loop-i-init : goal.loop-i-init
 loop-i-init c =
     let a = c.args in
     let t = c.token_at-t in
-    got_none a.s.now a.at a.out.now t.ensures (tested a.s.now t.result (45 ∷ []) c.part.ensures c.same_bytes.ensures c.if-same_bytes.false) (c.in_ok-len.ensures ∙ ap pairs_in c.saturating_sub.ensures)
+    got_none a.s.now a.at a.out.now t.ensures (tested a.s.now t.result (45 ∷ []) c.part.ensures c.same_bytes.ensures c.if-same_bytes.false) (c.in_ok-len.ensures ∙ ap pairs_in c.less.ensures)
 
 pub returns-in_err-out-clause-value : goal.returns-in_err-out-clause-value
 returns-in_err-out-clause-value c = c.from_residual-in_err-out.ensures ∙ (got_not c.loop-i.invariant (omega arith) c.in_err-out.ensures).0
