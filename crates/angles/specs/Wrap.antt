@@ -4,7 +4,7 @@ use Rattle.std.specs.Float.{Format}
 use Rattle.std.specs.Float.Ieee.{neg, add, sub, rem, lt, le}
 use Rattle.std.specs.Float.Ieee.Scale.{finite}
 use Rattle.floats.specs.declared.Refusal.TheVariants.{Param as PARAM}
-use Rattle.floats.specs.Refusal.{bad_lone, Outcome, accepted, unless}
+use Rattle.floats.specs.Refusal.{bad_lone, Outcome, accepted, or, unless}
 use Rattle.floats.specs.Numbers.{plus_zero, all_finite}
 
 module _ (f : Format) where
@@ -25,3 +25,7 @@ module _ (f : Format) where
   unfoldable pub wrap_of : Float → Float → Outcome Float
   unfolding wrap_step half_turn
   wrap_of d h = unless (all_finite (d ∷ h ∷ [])) bad_lone (unless (half_turn h) PARAM (accepted (wrap_step d h)))
+
+-- the number that is shown of what a wrap comes to: the value; refused, it gives +0
+abbrev pub shown : Outcome Float → Float
+shown o = or plus_zero o

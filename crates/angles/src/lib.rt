@@ -7,7 +7,7 @@ ghost use Rattle.std.specs.Float.Ieee.Scale.{finite};
 ghost use Rattle.floats.specs.declared.Refusal.{Refusal};
 ghost use Rattle.floats.specs.Numbers.{plus_zero};
 ghost use Rattle.angles.specs.declared.Kind.{Kind};
-ghost use Rattle.angles.specs.Wrap.{wrap_step, half_turn, wrap_of};
+ghost use Rattle.angles.specs.Wrap.{wrap_step, half_turn, wrap_of, shown};
 ghost use Rattle.angles.specs.Kinds.{through_of, half_of, passes, kind_of};
 
 use floats::{Number, Refusal, Slice};
@@ -108,6 +108,16 @@ pub fn wrap<T: Number>(d: T, h: T) -> Result<T, Refusal>
         return Err(Refusal::Param);
     }
     Ok(wrap_step(d, h))
+}
+
+// The number that is shown of what a wrap answers: the wrapped value, +0 where it is refused.
+pub fn shown<T: Number>(w: Result<T, Refusal>) -> T
+    ensures { T.float result ≡ shown (T.seen (λ A. Result A Refusal) w) }
+{
+    match w {
+        Ok(value) => value,
+        Err(_) => T::ZERO,
+    }
 }
 
 // How a difference is taken: as it is, or wrapped at a half-turn.

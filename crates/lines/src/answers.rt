@@ -72,7 +72,7 @@ fn put_labelled<T: Worded>(
 }
 
 // Of a filter: x and P.
-pub fn put_moments<T: Worded>(out: &mut [u8], used: usize, filter: Filter<T>) -> usize {
+pub(crate) fn put_moments<T: Worded>(out: &mut [u8], used: usize, filter: Filter<T>) -> usize {
     let n = filter.sheet.n;
     let at = put_labelled(out, used, b" x", &filter.track.x, n);
     put_labelled(out, at, b" P", &filter.track.p, checks::square(n))
@@ -215,7 +215,7 @@ fn put_drawn<T: Worded>(out: &mut [u8], used: usize, filter: Filter<T>) -> usize
 }
 
 // Of a filter: the used places of all but what a stepped call keeps.
-pub fn put_filter<T: Worded>(out: &mut [u8], used: usize, filter: Filter<T>) -> usize {
+pub(crate) fn put_filter<T: Worded>(out: &mut [u8], used: usize, filter: Filter<T>) -> usize {
     let at = put_values(out, used, filter);
     let at = put_settings(out, at, filter);
     let at = put_current(out, at, filter);
@@ -241,7 +241,7 @@ fn put_progress<T: Copy>(out: &mut [u8], used: usize, kept: Kept<T>) -> usize {
 }
 
 // Of a filter: which way a call is open, and what a stepped one keeps.
-pub fn put_kept<T: Worded>(out: &mut [u8], used: usize, filter: Filter<T>) -> usize {
+pub(crate) fn put_kept<T: Worded>(out: &mut [u8], used: usize, filter: Filter<T>) -> usize {
     let track = filter.track;
     let kept = track.kept;
     let k = image_numbers(filter.sheet.n, kept);

@@ -3,7 +3,6 @@ use crate::answers::Turn;
 use crate::subject::{Buffers, Done, Subject};
 use crate::{answers, tokens};
 use filter::point::{self, Spaced};
-use floats::Number;
 use script::Name;
 use words::Worded;
 
@@ -186,10 +185,12 @@ fn wrap<S: Subject>(held: S, s: &[u8], at: usize, out: &mut [u8], used: usize) -
     let Some(h) = tokens::last_number(s, d.next) else {
         return answers::bad(held, out, used);
     };
-    let used = match angles::wrap(d.value, h) {
-        Ok(x) => answers::value(floats::placeless(0), x, out, used),
-        Err(refusal) => answers::value(refusal.verdict(), S::Float::ZERO, out, used),
+    let wrapped = angles::wrap(d.value, h);
+    let refusal = match wrapped {
+        Ok(_) => floats::placeless(0),
+        Err(refusal) => refusal.verdict(),
     };
+    let used = answers::value(refusal, angles::shown(wrapped), out, used);
     Turn { held, used }
 }
 

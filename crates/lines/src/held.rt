@@ -144,7 +144,7 @@ fn side_close(
 }
 
 // The filter, or a side with the sheet.
-fn shown(held: Held) -> Filter<f64> {
+pub fn shown(held: Held) -> Filter<f64> {
     let sheet = held.pair.sheet;
     match held.whose {
         Whose::Alone => held.filter,

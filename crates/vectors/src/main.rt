@@ -164,7 +164,7 @@ fn answer_wrap(rt: &impl Print, input: &mut impl Read) -> io::Result<bool> {
     };
     let w = angles::wrap(d, h);
     put_verdict(rt, w.err())?;
-    put_number(rt, w.unwrap_or(0.0))?;
+    put_number(rt, angles::shown(w))?;
     end_line(rt)
 }
 
@@ -250,22 +250,22 @@ fn next_params(input: &mut impl Read) -> io::Result<Option<Params<f64>>> {
     Ok(Some(Params { alpha, beta, kappa }))
 }
 
-// k kinds and then plain ones; none where they are not all there. Each is a count, 0 plain or 1 a turn, and a half-turn.
+// k kinds and then plain ones; none where they are not all there, but all are read. Each is a count, 0 plain or 1 a turn, and a half-turn.
 fn next_kinds(input: &mut impl Read, k: usize) -> io::Result<Option<[Kind<f64>; 8]>> {
     let mut kinds = [Kind::Plain; 8];
     if kinds.len() < k {
         return Ok(None);
     }
+    let mut whole = true;
     for kind in &mut kinds[..k] {
         let turn = next_count(input, 1)?;
-        let Some(half_turn) = next_number(input)? else {
-            return Ok(None);
-        };
-        if turn == 1 {
-            *kind = Kind::Turn(half_turn);
+        match next_number(input)? {
+            Some(half_turn) if turn == 1 => *kind = Kind::Turn(half_turn),
+            Some(_) => {}
+            None => whole = false,
         }
     }
-    Ok(Some(kinds))
+    Ok(whole.then_some(kinds))
 }
 
 // 8: whether the weights of n states pass 6, then N, w0m, w0c and wi.
@@ -325,10 +325,9 @@ fn put_moments(rt: &impl Print, n: usize, made: Result<Moments<f64>, Refusal>) -
 // 10: x and P from propagated points, the weights those of the parameters.
 fn answer_prediction(rt: &impl Print, input: &mut impl Read) -> io::Result<bool> {
     let n = next_count(input, 8)? as usize;
-    let Some(params) = next_params(input)? else {
-        return say_bad(rt);
-    };
-    let Some(kinds) = next_kinds(input, n)? else {
+    let params = next_params(input)?;
+    let kinds = next_kinds(input, n)?;
+    let (Some(params), Some(kinds)) = (params, kinds) else {
         return say_bad(rt);
     };
     let mut q = [0.0f64; 64];
@@ -356,13 +355,10 @@ fn answer_prediction(rt: &impl Print, input: &mut impl Read) -> io::Result<bool>
 fn answer_correction(rt: &impl Print, input: &mut impl Read) -> io::Result<bool> {
     let n = next_count(input, 8)? as usize;
     let m = next_count(input, 4)? as usize;
-    let Some(params) = next_params(input)? else {
-        return say_bad(rt);
-    };
-    let Some(kinds) = next_kinds(input, n)? else {
-        return say_bad(rt);
-    };
-    let Some(measured) = next_kinds(input, m)? else {
+    let params = next_params(input)?;
+    let kinds = next_kinds(input, n)?;
+    let measured = next_kinds(input, m)?;
+    let (Some(params), Some(kinds), Some(measured)) = (params, kinds, measured) else {
         return say_bad(rt);
     };
     let mut x = [0.0f64; 8];
