@@ -55,6 +55,8 @@ use Rattle.floats.proofs.slice_number.Kinds as slice_number_of
 use Rattle.floats.proofs.slice_number.Reads as slice_number
 use Rattle.floats.proofs.number.Number.whole.Kinds as whole_of
 use Rattle.floats.proofs.number.Number.whole.Reads as whole
+use Rattle.floats.proofs.number.Number.held.Kinds as held_of
+use Rattle.floats.proofs.number.Number.held.Reads as held
 use Rattle.floats.proofs.Refusal.verdict.Kinds as verdict_of
 use Rattle.floats.proofs.Refusal.verdict.Reads as verdict
 use Rattle.floats.proofs.first_bad.Kinds as first_bad_of
@@ -63,8 +65,16 @@ use Rattle.floats.proofs.next_bad.Kinds as next_bad_of
 use Rattle.floats.proofs.next_bad.Reads as next_bad
 use Rattle.root.proofs.square_root.Kinds as square_root_of
 use Rattle.root.proofs.square_root.Reads as square_root
+use Rattle.root.proofs.rooted.Rooted.bits.Kinds as root_bits_of
+use Rattle.root.proofs.rooted.Rooted.bits.Reads as root_bits
+use Rattle.root.proofs.rooted.Rooted.of_bits.Kinds as root_of_bits_of
+use Rattle.root.proofs.rooted.Rooted.of_bits.Reads as root_of_bits
+use Rattle.root.proofs.rooted.Rooted.nearest_root.Kinds as nearest_root_of
+use Rattle.root.proofs.rooted.Rooted.nearest_root.Reads as nearest_root
 use Rattle.angles.proofs.wrap.Kinds as wrap_of
 use Rattle.angles.proofs.wrap.Reads as wrap
+use Rattle.angles.proofs.shown.Kinds as shown_of
+use Rattle.angles.proofs.shown.Reads as shown
 use Rattle.angles.proofs.Kind.through.Kinds as through_of
 use Rattle.angles.proofs.Kind.through.Reads as through
 use Rattle.angles.proofs.Kind.half.Kinds as half_of
@@ -219,6 +229,10 @@ use Rattle.words.proofs.float_of.Kinds as float_of_of
 use Rattle.words.proofs.float_of.Reads as float_of
 use Rattle.words.proofs.bits_of.Kinds as bits_of_of
 use Rattle.words.proofs.bits_of.Reads as bits_of
+use Rattle.words.proofs.worded.Worded.from_word.Kinds as from_word_of
+use Rattle.words.proofs.worded.Worded.from_word.Reads as from_word
+use Rattle.words.proofs.worded.Worded.to_word.Kinds as to_word_of
+use Rattle.words.proofs.worded.Worded.to_word.Reads as to_word
 use Rattle.words.proofs.digit.Kinds as digit_of
 use Rattle.words.proofs.digit.Reads as digit
 use Rattle.words.proofs.word_at.Kinds as word_at_of
@@ -360,17 +374,32 @@ verdict_one κs a z z' w w' p q = (by p q, refl)
 pub whole_one : OneAnswerOf whole_of.ps whole_of.r whole.Learnt
 whole_one T κs a z z' w w' p q = (by_float T p q, refl)
 
+pub held_one : OneAnswerOf held_of.ps held_of.r held.Learnt
+held_one T κs a z z' w w' p q = (refl, refl)
+
 pub first_bad_one : OneAnswerOf first_bad_of.ps first_bad_of.r first_bad.Learnt
 first_bad_one T κs a z z' w w' p q = (by p q, refl)
 
 pub next_bad_one : OneAnswerOf next_bad_of.ps next_bad_of.r next_bad.Learnt
 next_bad_one T κs a z z' w w' p q = (by p q, refl)
 
+pub root_bits_one : OneAnswerMore Rooted.Ghosts root_bits_of.ps root_bits_of.r root_bits.Learnt
+root_bits_one T R d κs a z z' w w' p q = (by p.0 q.0, refl)
+
+pub root_of_bits_one : OneAnswerMore Rooted.Ghosts root_of_bits_of.ps root_of_bits_of.r root_of_bits.Learnt
+root_of_bits_one T R d κs a z z' w w' p q = (by_float T p q, refl)
+
+pub nearest_root_one : OneAnswerMore Rooted.Ghosts nearest_root_of.ps nearest_root_of.r nearest_root.Learnt
+nearest_root_one T R d κs a z z' w w' p q = (by p q, refl)
+
 pub square_root_one : OneAnswerMore Rooted.Ghosts square_root_of.ps square_root_of.r square_root.Learnt
 square_root_one T R d κs a z z' w w' p q = (by_seen T Outcome p q, refl)
 
 pub wrap_one : OneAnswerOf wrap_of.ps wrap_of.r wrap.Learnt
 wrap_one T κs a z z' w w' p q = (by_seen T Outcome p q, refl)
+
+pub shown_one : OneAnswerOf shown_of.ps shown_of.r shown.Learnt
+shown_one T κs a z z' w w' p q = (by_float T p q, refl)
 
 pub through_one : OneAnswerOf through_of.ps through_of.r through.Learnt
 through_one T κs a z z' w w' p q = (by_float T p q, refl)
@@ -598,6 +627,12 @@ part_one T R d κs a z z' w w' p q = (by p.1 q.1, by p.0 q.0, refl)
 
 pub point_one : OnePartMore Spaced.Ghosts point_of.ps point_of.r point.Learnt (λ R L C κs z. z)
 point_one T R d κs a z z' w w' p q = (by p.1 q.1, by_floats T p.0 q.0, refl)
+
+pub from_word_one : OneAnswerMore Worded.Ghosts from_word_of.ps from_word_of.r from_word.Learnt
+from_word_one T R d κs a z z' w w' p q = (by_float T p q, refl)
+
+pub to_word_one : OneAnswerMore Worded.Ghosts to_word_of.ps to_word_of.r to_word.Learnt
+to_word_one T R d κs a z z' w w' p q = (by p q, refl)
 
 pub float_of_one : OneAnswerMore Worded.Ghosts float_of_of.ps float_of_of.r float_of.Learnt
 float_of_one T R d κs a z z' w w' p q = (by_float T p q, refl)

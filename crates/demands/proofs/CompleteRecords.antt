@@ -37,6 +37,8 @@ use Rattle.script.proofs.hex.bytes_at.Kinds as bytes_at_of
 use Rattle.script.proofs.hex.bytes_at.Reads as bytes_at
 use Rattle.script.proofs.hex.put_bytes.Kinds as put_bytes_of
 use Rattle.script.proofs.hex.put_bytes.Reads as put_bytes
+use Rattle.script.proofs.write.less.Kinds as less_of
+use Rattle.script.proofs.write.less.Reads as less
 
 pub word_at_one : OneAnswer word_at_of.ps word_at_of.r word_at.Learnt
 word_at_one κs a z z' w w' p q = (by p q, refl)
@@ -88,3 +90,6 @@ bytes_at_one κs a z z' w w' p q = (by p.0 q.0, ap (λ (l : List ℕ). (tt, (tt,
 
 pub put_bytes_one : OneAnswer put_bytes_of.ps put_bytes_of.r put_bytes.Learnt
 put_bytes_one κs a z z' w w' p q = (by p.0 q.0, ap (λ (l : List ℕ). (l, (tt, (tt, tt)))) (by p.1 q.1))
+
+pub less_one : OneAnswer less_of.ps less_of.r less.Learnt
+less_one κs a z z' w w' p q = (by p q, refl)

@@ -17,7 +17,7 @@ use Rattle.floats.specs.Search.{Input}
 use Rattle.floats.specs.Numbers.{plus_zero, zeros, all_finite}
 use Rattle.floats.specs.Fronts.{front, over}
 use Rattle.root.specs.Answer.{root_outcome}
-use Rattle.angles.specs.Wrap.{wrap_of}
+use Rattle.angles.specs.Wrap.{wrap_of, shown}
 use Rattle.angles.specs.Kinds.{kind_of}
 use Rattle.angles.specs.Kinds.{Kind}
 use Rattle.matrix.specs.Results.{planned}
@@ -37,7 +37,7 @@ use Rattle.demands.specs.Rows.{Some, NotFinite, NotAbove, Below, OutOfRange, Fir
 use Rattle.demands.specs.Listed.{listed_at_open, listed_at_prediction, listed_at_head, listed_at_correction}
 use Rattle.demands.specs.Runs.{told}
 use Rattle.demands.specs.Sound.{Sound, Tidy, Reached, Yielded, handed_out, Each}
-use Rattle.demands.proofs.Exactly.{exactly, taken_exactly, new_exactly, new_taken, new_track_exactly, new_track_taken, new_sheet_exactly, new_sheet_taken, load_exactly, load_taken, point_exactly, point_taken, wrap_exactly, wrap_taken, root_exactly, root_taken, kind_exactly, kind_taken, one_of, ends_so, refused_unwritten, refused_values, new_refused, load_refused, new_track_refused, new_sheet_refused, point_refused}
+use Rattle.demands.proofs.Exactly.{exactly, taken_exactly, new_exactly, new_taken, new_track_exactly, new_track_taken, new_sheet_exactly, new_sheet_taken, load_exactly, load_taken, point_exactly, point_taken, wrap_exactly, wrap_taken, wrap_refused, root_exactly, root_taken, kind_exactly, kind_taken, one_of, ends_so, refused_unwritten, refused_values, new_refused, load_refused, new_track_refused, new_sheet_refused, point_refused}
 use Rattle.demands.proofs.Places.{some_bad, one_bad, turn_at, placed_of, placed_so}
 use Rattle.demands.proofs.Pivots.{number_exactly, pivot_by_open, innov_by_correction, range_by_steps, prediction_pivot, correction_opened_pivot, correction_closed_pivot, flat_correction_pivot}
 use Rattle.demands.proofs.Listed.{open_prediction_lists, open_correction_lists, open_prediction_stepped_lists, open_correction_stepped_lists, close_prediction_lists, close_correction_lists, close_correction_flat_lists}
@@ -156,6 +156,10 @@ module _ (f : Format) where
 
   pub wrap_taken_when : (d h : Float) → (refusal (wrap_of f d h) ≡ taken) ↔ ((NotFinite d ⊎ NotFinite h → ⊥) × (NotAbove h ⊎ NotFinite (add f h h) → ⊥))
   wrap_taken_when = wrap_taken f
+
+  -- a refused wrap gives +0 (`shown`: the number that stands for what a wrap answers),
+  pub refused_wrap : (d h : Float) → (refusal (wrap_of f d h)).number ≢ 0 → shown (wrap_of f d h) ≡ plus_zero
+  refused_wrap = wrap_refused f
 
   -- of the root: 56 at 0 exactly when x isn't finite or is below zero, and no other number,
   pub root_exactly_when : (x : Float) (r : Refusal) → (refusal (root_outcome f x) ≡ verdict r) ↔ ((r ≡ bad_lone) × (NotFinite x ⊎ Below x))

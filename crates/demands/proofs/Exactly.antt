@@ -20,7 +20,7 @@ use Rattle.floats.specs.Numbers.{plus_zero, all_finite}
 use Rattle.floats.specs.Fronts.{over}
 use Rattle.root.specs.Definition.{root_of, rooted}
 use Rattle.root.specs.Answer.{root_outcome}
-use Rattle.angles.specs.Wrap.{wrap_of, wrap_step, half_turn}
+use Rattle.angles.specs.Wrap.{wrap_of, wrap_step, half_turn, shown}
 use Rattle.angles.specs.Kinds.{is_plain, half_of, passes, kind_of}
 use Rattle.angles.specs.Kinds.{Kind}
 use Rattle.matrix.specs.Results.{Result, First, now, later, Plan, run, planned}
@@ -330,6 +330,14 @@ module _ (f : Format) where
     pub wrap_taken : (refusal (wrap_of f d h) ≡ taken) ↔ ((NotFinite d ⊎ NotFinite h → ⊥) × (NotAbove h ⊎ NotFinite (add f h h) → ⊥))
     unfolding wrap_of
     wrap_taken = two_taken (wrap_step f d h) (all_finite (d ∷ h ∷ [])) (half_turn f h) both_finite (half_turn_lem f h)
+
+    -- what is shown of a refused wrap
+    pub wrap_refused : (refusal (wrap_of f d h)).number ≢ 0 → shown (wrap_of f d h) ≡ plus_zero
+    wrap_refused = go (wrap_of f d h)
+      where
+        go : (o : Outcome Float) → (refusal o).number ≢ 0 → shown o ≡ plus_zero
+        go (refused r) n = refl
+        go (accepted w) n = absurd (n refl)
 
   module _ (x : Float) where
     -- a root is refused by 56 at 0 just where x isn't finite or is below zero, and by nothing else

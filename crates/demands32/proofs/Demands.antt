@@ -1,4 +1,4 @@
--- The demands of the f32 filter (document 02, A6), said of its own calls, steps, runs and filters. Each is by a theorem of `demands`, which are over the format, at binary32. What isn't said again here holds so too: the first section leads from one to the other. Assumes nothing.
+-- The demands of the f32 filter (document 02, A6), said of its own calls, steps, runs and filters; the flat close, which document 01 hasn't, is in Flat. Each is by a theorem of `demands`, which are over the format, at binary32. What isn't said again here holds so too: the first section leads from one to the other. Assumes nothing.
 use Prim.Native.Nat.{ℕ}
 use mathlib.Core.Path.{◌≡◌, refl, sym, ap, ◌∙◌, subst}
 use mathlib.Core.Bool.{true, false, ◌||◌}
@@ -24,7 +24,7 @@ use Rattle.matrix.specs.Results.{planned}
 use Rattle.matrix.specs.Factored.{BadPivot}
 use Rattle.sigma.specs.Weights.{Params, weights_of}
 use Rattle.filter.specs.Types.{Filter, Answer}
-use Rattle.filter.specs.Filters.{is_shut, seen, abandoned}
+use Rattle.filter.specs.Filters.{is_shut, seen, nothing_kept, abandoned}
 use Rattle.filter.specs.Calls.{asks, plan, weighted_from}
 use Rattle.filter.specs.Steps.{step, answered}
 use Rattle.filter.specs.New.{empty, from, new_asks, new_answer}
@@ -41,6 +41,7 @@ use Rattle.demands.proofs.Instances.{f32}
 use Rattle.demands.proofs.Wrapping.{AreValues, HandsBack}
 use Rattle.demands32.specs.Calls.{SheetCall, SetCall, open_prediction, open_correction, close_correction, Call, writing, setting, closing, abandon, as_sheet_call, as_set_call, as_call}
 use Rattle.demands32.specs.Runs.{step32, new32, told, ran_to, StaysOpen, Struck, rest, Reached, Yielded}
+use Rattle.demands32.proofs.Carried as carried
 use Rattle.demands32.proofs.Carried.{none_flat, none_saves, told_carried, reached_carried, yielded_carried, stays_carried, abandoned_carried, struck_carried}
 
 -- ---- From the code to here, and from here to `demands`
@@ -65,6 +66,17 @@ yielded_at_binary32 = yielded_carried
 
 pub reached_at_binary32 : {s : Filter} → Reached s → ReachedAt binary32 s
 reached_at_binary32 = reached_carried
+
+-- The room for images stays as it was made: a call of the f32 filter on a filter that keeps nothing leaves one that keeps nothing, and so does New,
+pub step_keeps_nothing : (s : Filter) (c : Call) → s.track.kept ≡ nothing_kept → (step32 s c).filter.track.kept ≡ nothing_kept
+step_keeps_nothing = carried.step_keeps_nothing
+
+pub new_keeps_nothing : (n : ℕ) (x p q : List Float) (params : Params) → (new32 n x p q params).filter.track.kept ≡ nothing_kept
+new_keeps_nothing = carried.new_keeps_nothing
+
+-- so that nothing is kept in any filter that New and these calls reach.
+pub reached_keeps_nothing : {s : Filter} → Reached s → s.track.kept ≡ nothing_kept
+reached_keeps_nothing = carried.reached_keeps_nothing
 
 -- ---- Demand 1
 
@@ -100,7 +112,7 @@ pub pivot_at_correction : (s : Filter) (m : ℕ) (z r : List Float) (kinds : Lis
     ((step32 s c).reply.refusal ≡ verdict (INNOV j)) ↔ (Free binary32 9 s (as_call c) × ((Some Fails (listed_at_head binary32 h) → ⊥) × BadPivot binary32 h.s m j))
 pivot_at_correction s m z r kinds = demand1.pivot_at_correction binary32 s m z r kinds
 
--- beside every other answer stands place 0. 10 belongs to the flat close, 11 to save and 12 to load, so that no call of the f32 filter gives them,
+-- beside every other answer stands place 0. None of these calls gives 10, which is the flat close's (`kind_when` in Flat says when), 11, which is save's, or 12, which is load's,
 pub no_other_place : (s : Filter) (c : Call) → Placed (step32 s c).reply.refusal
 no_other_place s c = demand1.no_other_place binary32 s (as_call c)
 

@@ -3,6 +3,7 @@ use Rattle.std.specs.Prelude.{ℕ, ◌≡◌, true, false, List, [], ◌∷◌, 
 use Rattle.std.specs.Float.{binary32}
 use Rattle.filter.specs.Filters.{is_shut}
 use Rattle.filter.specs.Types.{Filter, Answer}
+use Rattle.filter.specs.Calls as calls
 use Rattle.filter.specs.Steps.{Stepped, step}
 use Rattle.filter.specs.New.{new_answer}
 use Rattle.sigma.specs.Weights.{Params}
@@ -59,3 +60,9 @@ pub data Yielded : Filter → Type 0 where
   fresh_made : (n : ℕ) (x p q : List Float) (params : Params) → Yielded (new32 n x p q params).filter
   stepped_on : {s : Filter} → Yielded s → (c : Call) → Yielded (step32 s c).filter
   put_at_will : {s : Filter} (t : Filter) → Yielded s → Alike s t → Yielded t
+
+-- the filters that New, these calls and the flat close reach
+pub data FlatReached : Filter → Type 0 where
+  first_reached : {s : Filter} → Reached s → FlatReached s
+  called : {s : Filter} → FlatReached s → (c : Call) → FlatReached (step32 s c).filter
+  closed_flat : {s : Filter} → FlatReached s → (m : ℕ) (z r observed : List Float) → FlatReached (step binary32 s (calls.closing (calls.close_correction_flat m z r observed))).filter
