@@ -1,5 +1,10 @@
 // The answers, line by line, put after the bytes of out that are used. Each hands back how many are used then, and what is held where the call is on it.
-ghost use Rattle.std.specs.Prelude.{◌≡◌};
+ghost use Rattle.std.specs.Prelude.{◌≡◌, List, take};
+ghost use Rattle.angles.specs.declared.Kind.{Kind};
+ghost use Rattle.sigma.specs.declared.Params.{Params};
+ghost use Rattle.filter.specs.declared.Filter.{Filter};
+ghost use Rattle.script.specs.Page.{page};
+ghost use Rattle.lines.specs.Answers.{Shown, kept_numbers, put_labelled, put_params, put_kind, put_kinds, put_moments, put_lists, put_settings, put_current, put_drawn, Sized, FilterShown, Progressed, KeptShown};
 
 use crate::subject::{Done, Subject};
 use angles::Kind;
@@ -66,13 +71,17 @@ fn put_labelled<T: Worded>(
     label: &[u8],
     numbers: &[T],
     k: usize,
-) -> usize {
+) -> usize
+    ensures { Shown (put_labelled T.format label.now (T.floats numbers.now) k (page out.old used)) result out.new }
+{
     let at = script::put(out, used, label);
     script::put_numbers(out, at, numbers, k)
 }
 
 // Of a filter: x and P.
-pub(crate) fn put_moments<T: Worded>(out: &mut [u8], used: usize, filter: Filter<T>) -> usize {
+pub fn put_moments<T: Worded>(out: &mut [u8], used: usize, filter: Filter<T>) -> usize
+    ensures { Shown (put_moments T.format (T.seen Filter filter) (page out.old used)) result out.new }
+{
     let n = filter.sheet.n;
     let at = put_labelled(out, used, b" x", &filter.track.x, n);
     put_labelled(out, at, b" P", &filter.track.p, checks::square(n))
@@ -93,7 +102,9 @@ pub fn close<S: Subject>(a: Done<S>, out: &mut [u8], used: usize) -> Turn<S>
     }
 }
 
-fn put_params<T: Worded>(out: &mut [u8], used: usize, params: Params<T>) -> usize {
+fn put_params<T: Worded>(out: &mut [u8], used: usize, params: Params<T>) -> usize
+    ensures { Shown (put_params T.format (T.seen Params params) (page out.old used)) result out.new }
+{
     let at = script::put_number(out, used, params.alpha);
     let at = script::put_number(out, at, params.beta);
     script::put_number(out, at, params.kappa)
@@ -149,7 +160,9 @@ pub fn value<T: Worded>(refusal: Verdict, x: T, out: &mut [u8], used: usize) -> 
     script::put(out, at, b"\n")
 }
 
-fn put_kind<T: Worded>(out: &mut [u8], used: usize, k: Kind<T>) -> usize {
+fn put_kind<T: Worded>(out: &mut [u8], used: usize, k: Kind<T>) -> usize
+    ensures { Shown (put_kind T.format (T.seen Kind k) (page out.old used)) result out.new }
+{
     match k {
         Kind::Plain => script::put(out, used, b" p"),
         Kind::Turn(h) => {
@@ -159,7 +172,9 @@ fn put_kind<T: Worded>(out: &mut [u8], used: usize, k: Kind<T>) -> usize {
     }
 }
 
-fn put_kinds<T: Worded>(out: &mut [u8], used: usize, kinds: &[Kind<T>], n: usize) -> usize {
+fn put_kinds<T: Worded>(out: &mut [u8], used: usize, kinds: &[Kind<T>], n: usize) -> usize
+    ensures { Shown (put_kinds T.format (take n (T.seen (λ A. List (Kind A)) kinds.now)) (page out.old used)) result out.new }
+{
     let mut at = used;
     for k in &kinds[..n.min(kinds.len())] {
         at = put_kind(out, at, *k);
@@ -168,7 +183,9 @@ fn put_kinds<T: Worded>(out: &mut [u8], used: usize, kinds: &[Kind<T>], n: usize
 }
 
 // Of a filter: its size, x, P and Q.
-fn put_values<T: Worded>(out: &mut [u8], used: usize, filter: Filter<T>) -> usize {
+fn put_values<T: Worded>(out: &mut [u8], used: usize, filter: Filter<T>) -> usize
+    ensures { Sized filter.sheet.n (put_lists T.format (T.seen Filter filter)) (page out.old used) result out.new }
+{
     let n = filter.sheet.n;
     let at = script::put(out, used, b"0 0 n ");
     let at = script::put_decimal(out, at, n as u64);
@@ -177,7 +194,9 @@ fn put_values<T: Worded>(out: &mut [u8], used: usize, filter: Filter<T>) -> usiz
 }
 
 // Of a filter: its parameters and kinds.
-fn put_settings<T: Worded>(out: &mut [u8], used: usize, filter: Filter<T>) -> usize {
+fn put_settings<T: Worded>(out: &mut [u8], used: usize, filter: Filter<T>) -> usize
+    ensures { Shown (put_settings T.format (T.seen Filter filter) (page out.old used)) result out.new }
+{
     let sheet = filter.sheet;
     let at = script::put(out, used, b" par");
     let at = put_params(out, at, sheet.params);
@@ -186,7 +205,9 @@ fn put_settings<T: Worded>(out: &mut [u8], used: usize, filter: Filter<T>) -> us
 }
 
 // Of a filter: its first two weights, points and stale mark.
-fn put_current<T: Worded>(out: &mut [u8], used: usize, filter: Filter<T>) -> usize {
+fn put_current<T: Worded>(out: &mut [u8], used: usize, filter: Filter<T>) -> usize
+    ensures { Shown (put_current T.format (T.seen Filter filter) (page out.old used)) result out.new }
+{
     let n = filter.sheet.n;
     let at = put_labelled(out, used, b" w", &filter.track.weights, 2);
     let at = put_labelled(
@@ -201,7 +222,9 @@ fn put_current<T: Worded>(out: &mut [u8], used: usize, filter: Filter<T>) -> usi
 }
 
 // Of a filter: what is open, and what that has drawn.
-fn put_drawn<T: Worded>(out: &mut [u8], used: usize, filter: Filter<T>) -> usize {
+fn put_drawn<T: Worded>(out: &mut [u8], used: usize, filter: Filter<T>) -> usize
+    ensures { Shown (put_drawn T.format (T.seen Filter filter) (page out.old used)) result out.new }
+{
     let n = filter.sheet.n;
     let at = script::put_stage(out, used, filter.track.stage);
     let at = put_labelled(out, at, b" dw", &filter.track.drawn_weights, 2);
@@ -214,8 +237,10 @@ fn put_drawn<T: Worded>(out: &mut [u8], used: usize, filter: Filter<T>) -> usize
     )
 }
 
-// Of a filter: the used places of all but what a stepped call keeps.
-pub(crate) fn put_filter<T: Worded>(out: &mut [u8], used: usize, filter: Filter<T>) -> usize {
+// Of a filter: the used places of all but the way a call is open and what a stepped one keeps.
+pub fn put_filter<T: Worded>(out: &mut [u8], used: usize, filter: Filter<T>) -> usize
+    ensures { FilterShown T.format (T.seen Filter filter) (page out.old used) result out.new }
+{
     let at = put_values(out, used, filter);
     let at = put_settings(out, at, filter);
     let at = put_current(out, at, filter);
@@ -223,7 +248,9 @@ pub(crate) fn put_filter<T: Worded>(out: &mut [u8], used: usize, filter: Filter<
 }
 
 // How many numbers the images so far have: n each, or in a correction the m that the first has named.
-fn image_numbers<T: Copy>(n: usize, kept: Kept<T>) -> usize {
+fn image_numbers<T: Copy>(n: usize, kept: Kept<T>) -> usize
+    ensures { result ≡ kept_numbers n kept.at kept.m }
+{
     if kept.m == 0 {
         return script::times(kept.at, n);
     }
@@ -231,7 +258,9 @@ fn image_numbers<T: Copy>(n: usize, kept: Kept<T>) -> usize {
 }
 
 // How far a stepped call is, whether the point that is due has been asked for, and its m.
-fn put_progress<T: Copy>(out: &mut [u8], used: usize, kept: Kept<T>) -> usize {
+fn put_progress<T: Copy>(out: &mut [u8], used: usize, kept: Kept<T>) -> usize
+    ensures { Progressed kept.at kept.asked kept.m Shown (page out.old used) result out.new }
+{
     let at = script::put(out, used, b" at ");
     let at = script::put_decimal(out, at, kept.at as u64);
     let at = script::put(out, at, b" asked");
@@ -241,7 +270,9 @@ fn put_progress<T: Copy>(out: &mut [u8], used: usize, kept: Kept<T>) -> usize {
 }
 
 // Of a filter: which way a call is open, and what a stepped one keeps.
-pub(crate) fn put_kept<T: Worded>(out: &mut [u8], used: usize, filter: Filter<T>) -> usize {
+pub fn put_kept<T: Worded>(out: &mut [u8], used: usize, filter: Filter<T>) -> usize
+    ensures { KeptShown T.format (T.seen Filter filter) (page out.old used) result out.new }
+{
     let track = filter.track;
     let kept = track.kept;
     let k = image_numbers(filter.sheet.n, kept);

@@ -9,6 +9,9 @@ use script::Name;
 use std::io;
 use std::io::Read;
 
+#[cfg(test)]
+mod tests;
+
 // What the lines so far have left: the filter and the pair, the f32 filter, and how many bytes of answers wait.
 #[derive(Clone, Copy)]
 struct Left {

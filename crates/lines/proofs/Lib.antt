@@ -1,0 +1,4 @@
+-- Laws of what `lines` puts on a page.
+pub mod One
+pub mod Pages
+pub mod Seen
